@@ -1,0 +1,3 @@
+pub mod ComponentLaws
+pub mod ResolvingLaws
+pub mod RelationLaws

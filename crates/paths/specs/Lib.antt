@@ -1,0 +1,3 @@
+pub mod Components
+pub mod Resolving
+pub mod Relations

@@ -1,0 +1,43 @@
+// Why a call is refused: every cause of document 01, in its checking order. The definitions are in specs/.
+ghost use mathlib.Core.Path.{_≡_};
+ghost use Rattle.refusals.specs.Refusals.{refusalNumber};
+
+pub enum Refusal {
+    // Lent memory is too small for a table or holds none, or the standby's n is above its h.
+    NoTable,
+    // Lent text or record space is too small.
+    NoSpace,
+    // An answer, mode, kind, child code, switches value or child list is none that the call takes.
+    Unknown,
+    EmptyPath,
+    PathTooLong,
+    // A relative path comes with a working directory that is empty, too long or relative itself.
+    BadDirectory,
+    ResolvedTooLong,
+    // An insert would add an entry, and there is no room for it.
+    TableFull,
+    // A recorded act needs a change number above the greatest.
+    NumbersUsedUp,
+    // A child asks for more than its parent passes.
+    Escalation,
+    MalformedRecord,
+}
+
+// Document 01's number of a cause.
+pub fn refusal_number(refusal: Refusal) -> u8
+    ensures { λ r. ⌜ r ≡ refusalNumber refusal ⌝ }
+{
+    match refusal {
+        Refusal::NoTable => 1,
+        Refusal::NoSpace => 2,
+        Refusal::Unknown => 3,
+        Refusal::EmptyPath => 4,
+        Refusal::PathTooLong => 5,
+        Refusal::BadDirectory => 6,
+        Refusal::ResolvedTooLong => 7,
+        Refusal::TableFull => 8,
+        Refusal::NumbersUsedUp => 9,
+        Refusal::Escalation => 10,
+        Refusal::MalformedRecord => 11,
+    }
+}

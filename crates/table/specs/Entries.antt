@@ -1,0 +1,75 @@
+-- Entries, their kinds, and the comparison of two. Document 01, "A call comes in" (kinds) and "Placing an entry" (comparison).
+use Prim.Native.Nat.{ℕ, zero, suc}
+use mathlib.Core.List.{List}
+use mathlib.Core.Option.{Option, none, some}
+use mathlib.Core.Bool.{Bool, true, false, _&&_, not, cond}
+use lib.IntN.{ℤ, negℤ}
+use Rattle.table.specs.declared.Kind.{Kind}
+use Rattle.table.specs.declared.Kind.the-variants.{G, D, P, I}
+use Rattle.paths.specs.Relations.{isPrefix, pathOrder, numberOrder, less, greater}
+
+-- ---- kinds: G granted, D flag-denied, P prompt-denied, I flag-ignored
+
+abbrev pub kindNumber : Kind → ℕ
+kindNumber G = 0
+kindNumber D = 1
+kindNumber P = 2
+kindNumber I = 3
+
+-- the kind that a number names; none has a number above 3
+unfoldable pub kindOf : ℕ → Option Kind
+kindOf zero = some G
+kindOf (suc zero) = some D
+kindOf (suc (suc zero)) = some P
+kindOf (suc (suc (suc zero))) = some I
+kindOf (suc (suc (suc (suc n)))) = none
+
+unfoldable pub isGranted : Kind → Bool
+isGranted G = true
+isGranted D = false
+isGranted P = false
+isGranted I = false
+
+-- the Rust's `kind_precedence`: on equal paths D goes first, then P, then I. No comparison that asks for it mixes G with the others.
+unfoldable pub kindPrecedence : Kind → ℕ
+kindPrecedence D = 0
+kindPrecedence P = 1
+kindPrecedence I = 2
+kindPrecedence G = 3
+
+-- ---- entries
+
+-- an entry's path is a resolved one
+pub record Entry : Type 0 where
+  pub kind : Kind
+  pub path : List ℕ
+
+-- ---- the comparison, −1, 0 or 1
+
+-- p and q have the same components
+unfoldable pub samePath : List ℕ → List ℕ → Bool
+samePath p q = isPrefix p q && isPrefix q p
+
+-- p has q as a prefix and is not q
+unfoldable pub strictlyExtends : List ℕ → List ℕ → Bool
+strictlyExtends p q = isPrefix q p && not (isPrefix p q)
+
+-- G with G, and two of D, I, P: a deeper path comes before its prefix, others by path order;
+-- equal paths go D, P, I, or 0 for the same kind
+unfoldable pub compareAlike : Entry → Entry → ℤ
+compareAlike old new =
+    cond (samePath (old .path) (new .path)) (numberOrder (kindPrecedence (old .kind)) (kindPrecedence (new .kind)))
+    (cond (strictlyExtends (old .path) (new .path)) less
+    (cond (strictlyExtends (new .path) (old .path)) greater
+    (pathOrder (old .path) (new .path))))
+
+-- G, as the old entry, with D, I or P: before it only if its path strictly extends theirs; otherwise after
+unfoldable pub compareGranted : Entry → Entry → ℤ
+compareGranted old new = cond (strictlyExtends (old .path) (new .path)) less greater
+
+-- an old entry with a new one: −1 where the old one comes before, 1 where it comes after
+unfoldable pub compare : Entry → Entry → ℤ
+compare old new =
+    cond (isGranted (old .kind))
+    (cond (isGranted (new .kind)) (compareAlike old new) (compareGranted old new))
+    (cond (isGranted (new .kind)) (negℤ (compareGranted new old)) (compareAlike old new))

@@ -1,3 +1,4 @@
 pub mod ComponentLaws
 pub mod ResolvingLaws
 pub mod RelationLaws
+pub mod RelatingLaws

@@ -11,7 +11,21 @@ use lib.Dec.{eqb, ltb}
 use borrow.Author.Tests.{eq-eqb, ne-eqb, eqb-true, eqb-false, lt-ltb, le-ltb, ltb-true, ltb-false}
 use Rattle.paths.specs.Components.{slash, same, parted, pieces, withoutEmpty, components, slashed, spell}
 use Rattle.paths.specs.Resolving.{isResolved}
-use Rattle.paths.specs.Relations.{leads, isPrefix, less, equal, greater, numberOrder, orElse, inTurn, pathOrder}
+use Rattle.paths.specs.Relations.{
+  leads,
+  isPrefix,
+  less,
+  equal,
+  greater,
+  numberOrder,
+  orElse,
+  inTurn,
+  pathOrder,
+  relatedBy,
+  relation,
+}
+use Rattle.paths.specs.declared.Relation.{Relation}
+use Rattle.paths.specs.declared.Relation.the-variants.{Equal, Prefix, Extension, Less, Greater}
 use Rattle.paths.proofs.ComponentLaws.{and-left, and-right, and-both, same-refl, same-eq}
 use Rattle.paths.proofs.ResolvingLaws.{spell-components}
 
@@ -134,3 +148,149 @@ pub pathOrder-turned : (p q : List ℕ) → pathOrder q p ≡ negℤ (pathOrder 
 unfolding pathOrder
 pathOrder-turned p q =
     inTurn-turned (inTurn numberOrder) (inTurn-turned numberOrder numberOrder-turned) (components p) (components q)
+
+-- ---- what can hold of two lists at once: whether they are the same, and their order
+
+data Ordered : Bool → Bool → ℤ → Type 0 where
+  alike : Ordered true true equal
+  below : Ordered false false less
+  above : Ordered false false greater
+
+ordered-then : {a b c d : Bool} {o u : ℤ} → Ordered a b o → Ordered c d u → Ordered (a && c) (b && d) (orElse o u)
+unfolding orElse
+ordered-then alike k = k
+ordered-then below k = below
+ordered-then above k = above
+
+ordered-numbers : (a b : ℕ) → Ordered (eqb a b) (eqb b a) (numberOrder a b)
+ordered-numbers a b = go (decLt a b) (decLt b a)
+  where
+    go : Dec (a < b) → Dec (b < a) → Ordered (eqb a b) (eqb b a) (numberOrder a b)
+    go (yes h) d = rw (ne-eqb a b (omega arith), ne-eqb b a (omega arith), number-less a b h) below
+    go (no h) (yes k) = rw (ne-eqb a b (omega arith), ne-eqb b a (omega arith), number-greater a b k) above
+    go (no h) (no k) = rw (eq-eqb a b (omega arith), eq-eqb b a (omega arith), number-equal a b (omega arith)) alike
+
+ordered-bytes : (c d : List ℕ) → Ordered (same c d) (same d c) (inTurn numberOrder c d)
+unfolding same inTurn
+ordered-bytes [] [] = alike
+ordered-bytes [] (b ∷ d) = below
+ordered-bytes (a ∷ c) [] = above
+ordered-bytes (a ∷ c) (b ∷ d) = ordered-then (ordered-numbers a b) (ordered-bytes c d)
+
+-- ---- the same of components: whether each leads the other, and their order
+
+data Related : Bool → Bool → ℤ → Type 0 where
+  both : Related true true equal
+  first : Related true false less
+  second : Related false true greater
+  lower : Related false false less
+  higher : Related false false greater
+
+related-then : {a b c d : Bool} {o u : ℤ} → Ordered a b o → Related c d u → Related (a && c) (b && d) (orElse o u)
+unfolding orElse
+related-then alike k = k
+related-then below k = lower
+related-then above k = higher
+
+related-components : (cs ds : List (List ℕ)) → Related (leads cs ds) (leads ds cs) (inTurn (inTurn numberOrder) cs ds)
+unfolding leads inTurn
+related-components [] [] = both
+related-components [] (d ∷ ds) = first
+related-components (c ∷ cs) [] = second
+related-components (c ∷ cs) (d ∷ ds) = related-then (ordered-bytes c d) (related-components cs ds)
+
+related : (p q : List ℕ) → Related (isPrefix p q) (isPrefix q p) (pathOrder p q)
+unfolding isPrefix pathOrder
+related p q = related-components (components p) (components q)
+
+-- ---- what each answer says
+
+-- the answer to the turned-round question
+abbrev pub turned : Relation → Relation
+turned Equal = Equal
+turned Prefix = Extension
+turned Extension = Prefix
+turned Less = Greater
+turned Greater = Less
+
+-- whether the first is a prefix of the second
+abbrev pub saysPrefix : Relation → Bool
+saysPrefix Equal = true
+saysPrefix Prefix = true
+saysPrefix Extension = false
+saysPrefix Less = false
+saysPrefix Greater = false
+
+-- their order: a prefix is less
+abbrev pub saysOrder : Relation → ℤ
+saysOrder Equal = equal
+saysOrder Prefix = less
+saysOrder Extension = greater
+saysOrder Less = less
+saysOrder Greater = greater
+
+related-turned : {a b : Bool} {o : ℤ} → Related a b o → relatedBy b a (negℤ o) ≡ turned (relatedBy a b o)
+unfolding relatedBy
+related-turned both = refl
+related-turned first = refl
+related-turned second = refl
+related-turned lower = refl
+related-turned higher = refl
+
+pub relation-turned : (p q : List ℕ) → relation q p ≡ turned (relation p q)
+unfolding relation
+relation-turned p q = rw (pathOrder-turned p q) (related-turned (related p q))
+
+-- of two paths: whether each is a prefix of the other, and their order
+pub record Said (p q : List ℕ) (a b : Bool) (o : ℤ) : Type 0 where
+  pub prefix : isPrefix p q ≡ a
+  pub extension : isPrefix q p ≡ b
+  pub order : pathOrder p q ≡ o
+
+related-prefix : {a b : Bool} {o : ℤ} → Related a b o → a ≡ saysPrefix (relatedBy a b o)
+unfolding relatedBy
+related-prefix both = refl
+related-prefix first = refl
+related-prefix second = refl
+related-prefix lower = refl
+related-prefix higher = refl
+
+related-order : {a b : Bool} {o : ℤ} → Related a b o → o ≡ saysOrder (relatedBy a b o)
+unfolding relatedBy
+related-order both = refl
+related-order first = refl
+related-order second = refl
+related-order lower = refl
+related-order higher = refl
+
+pub relation-said : (p q : List ℕ) (r : Relation) → relation p q ≡ r → Said p q (saysPrefix r) (saysPrefix (turned r)) (saysOrder r)
+unfolding relation
+relation-said p q r e = record {
+  prefix = related-prefix (related p q) ∙ ap saysPrefix e;
+  extension = related-prefix (related q p) ∙ ap saysPrefix (relation-turned p q ∙ ap turned e);
+  order = related-order (related p q) ∙ ap saysOrder e;
+}
+
+module _ (p q : List ℕ) where
+  pub relation-equal : relation p q ≡ Equal → Said p q true true equal
+  relation-equal = relation-said p q Equal
+
+  pub relation-prefix : relation p q ≡ Prefix → Said p q true false less
+  relation-prefix = relation-said p q Prefix
+
+  pub relation-extension : relation p q ≡ Extension → Said p q false true greater
+  relation-extension = relation-said p q Extension
+
+  pub relation-less : relation p q ≡ Less → Said p q false false less
+  relation-less = relation-said p q Less
+
+  pub relation-greater : relation p q ≡ Greater → Said p q false false greater
+  relation-greater = relation-said p q Greater
+
+  -- equal is said of the same components
+  pub equal-components : relation p q ≡ Equal → components p ≡ components q
+  equal-components e = prefix-components p q (relation-equal e .prefix) (relation-equal e .extension)
+
+  pub components-equal : components p ≡ components q → relation p q ≡ Equal
+  unfolding relation isPrefix relatedBy
+  components-equal e = rw (e, leads-refl (components q))

@@ -1,3 +1,4 @@
 pub mod Components
 pub mod Resolving
 pub mod Relations
+pub mod Relating

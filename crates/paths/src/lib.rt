@@ -1,6 +1,8 @@
 // Paths: resolving one, and how two of them relate. The definitions are in specs/.
 use refusals::Refusal;
 
+pub mod relating;
+
 // How one path relates to another.
 pub enum Relation {
     Equal,

@@ -6,7 +6,7 @@ use mathlib.Core.Bool.{Bool, true, false, _&&_, not}
 use lib.ListN.{length}
 use lib.Dec.{leb, ltb}
 use Rattle.table.specs.Entries.{Entry, isGranted}
-use Rattle.table.specs.Placing.{Place, found, at, place, placed}
+use Rattle.table.specs.Placing.{Place, found, at, place, placedAt}
 use Rattle.table.specs.Tables.{Table, granted, clearBit, marked, maxEntries, maxPathBytes, pathBytes}
 use Rattle.paths.specs.Relations.{isPrefix}
 
@@ -19,13 +19,16 @@ pub data Act : Type 0 where
 
 -- ---- insert
 
--- the entry goes to its place, or an equal one is found; the mark is set even when nothing is added
-unfoldable pub inserted : Table → Entry → Table
-inserted t e = record {
-  entries = placed (t .entries) e;
+-- the entry goes to the place that was found for it, if any; the mark is set even when nothing is added
+unfoldable pub insertedBy : Place → Table → Entry → Table
+insertedBy where-to t e = record {
+  entries = placedAt where-to (t .entries) e;
   switches = t .switches;
   marks = marked (e .kind) (t .marks);
 }
+
+unfoldable pub inserted : Table → Entry → Table
+inserted t e = insertedBy (place (t .entries) e) t e
 
 unfoldable pub adds : Place → Bool
 adds found = false

@@ -2,3 +2,4 @@ pub mod Entries
 pub mod Placing
 pub mod Tables
 pub mod Acts
+pub mod Memory

@@ -49,6 +49,3 @@ place (e ∷ es) new =
 unfoldable pub placedAt : Place → List Entry → Entry → List Entry
 placedAt found entries new = entries
 placedAt (at k) entries new = take k entries ++ new ∷ drop k entries
-
-unfoldable pub placed : List Entry → Entry → List Entry
-placed entries new = placedAt (place entries new) entries new

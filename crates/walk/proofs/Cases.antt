@@ -19,9 +19,9 @@ use Rattle.walk.specs.Walk.{
 }
 use Rattle.table.specs.declared.Kind.{Kind}
 use Rattle.table.specs.Entries.{isGranted, kindPrecedence, samePath, strictlyExtends, compareAlike, compareGranted, compare}
-use Rattle.table.specs.Placing.{isAfter, searchFrom, search, placeBy, place, placedAt, placed}
+use Rattle.table.specs.Placing.{isAfter, searchFrom, search, placeBy, place, placedAt}
 use Rattle.table.specs.Tables.{has, setBit, clearBit, marked, any}
-use Rattle.table.specs.Acts.{inserted, keptUnless, without, revokedBy, applyAct, applyActs}
+use Rattle.table.specs.Acts.{insertedBy, inserted, keptUnless, without, revokedBy, applyAct, applyActs}
 use Rattle.paths.specs.Components.{same, grown, parted, pieces, withoutEmpty, components, slashed, spell}
 use Rattle.paths.specs.Resolving.{isAbsolute, join, entered, enterAll, normalize, resolve}
 use Rattle.paths.specs.Relations.{leads, isPrefix, numberOrder, orElse, inTurn, pathOrder, less}
@@ -37,9 +37,9 @@ pub starred : EveryRow rows
 unfolding Right bytes entry
     matchesKind matches firstMatch isFlag isPartial allowed decidedBy isDeniedMode isDenied withoutMatch byMatch queryDesc
     isGranted kindPrecedence samePath strictlyExtends compareAlike compareGranted compare
-    isAfter searchFrom search placeBy place placedAt placed
+    isAfter searchFrom search placeBy place placedAt
     has setBit clearBit marked any
-    inserted keptUnless without revokedBy applyAct applyActs
+    insertedBy inserted keptUnless without revokedBy applyAct applyActs
     same grown parted pieces withoutEmpty components slashed spell
     isAbsolute join entered enterAll normalize resolve
     leads isPrefix numberOrder orElse inTurn pathOrder

@@ -1,0 +1,223 @@
+-- Laws of the one pass over two paths: what a component's end, a byte that both have and a first difference say of how they relate.
+use Prim.Native.Nat.{ℕ, _+_, _≤_, _<_}
+use mathlib.Core.Path.{_≡_, refl, sym, ap, ap₂, _∙_}
+use mathlib.Core.List.{List, [], _∷_}
+use mathlib.Core.Bool.{Bool, true, false, cond}
+use native.Mathlib.Omega.{arith}
+use native.Mathlib.Numerals.{add-one}
+use native.Mathlib.Decide.{decLt}
+use lib.ListN.{length, getD, drop, drop-of-length-le}
+use lib.Seq.{drop-cons, drop-drop}
+use lib.Dec.{eqb}
+use borrow.Author.Tests.{eq-eqb, ne-eqb, eqb-false}
+use Rattle.paths.specs.Components.{slash, same, grown, parted, pieces, withoutEmpty, components}
+use Rattle.paths.specs.Relations.{leads, isPrefix, numberOrder, orElse, inTurn, pathOrder, relatedBy, relation}
+use Rattle.paths.specs.Relating.{rankOf, Begins}
+use Rattle.paths.specs.declared.Relation.{Relation}
+use Rattle.paths.specs.declared.Relation.the-variants.{Equal, Prefix, Extension, Less, Greater}
+use Rattle.paths.proofs.ComponentLaws.{pieces-byte}
+use Rattle.paths.proofs.RelationLaws.{number-less, number-greater, number-equal}
+
+-- ---- how lists of components relate
+
+unfoldable pub relationOf : List (List ℕ) → List (List ℕ) → Relation
+relationOf cs ds = relatedBy (leads cs ds) (leads ds cs) (inTurn (inTurn numberOrder) cs ds)
+
+relationOf-empty : (cs ds : List (List ℕ)) → relationOf ([] ∷ cs) ([] ∷ ds) ≡ relationOf cs ds
+unfolding relationOf leads same inTurn orElse
+relationOf-empty cs ds = refl
+
+module _ (c d : List ℕ) (cs ds : List (List ℕ)) where
+  relationOf-byte : (a b : ℕ) → a ≡ b → relationOf ((a ∷ c) ∷ cs) ((b ∷ d) ∷ ds) ≡ relationOf (c ∷ cs) (d ∷ ds)
+  unfolding relationOf leads same inTurn orElse
+  relationOf-byte a b e = rw (eq-eqb a b e, eq-eqb b a (sym e), number-equal a b e)
+
+  relationOf-less : (a b : ℕ) → a < b → relationOf ((a ∷ c) ∷ cs) ((b ∷ d) ∷ ds) ≡ Less
+  unfolding relationOf leads same inTurn orElse relatedBy
+  relationOf-less a b h = rw (ne-eqb a b (omega arith), ne-eqb b a (omega arith), number-less a b h)
+
+  relationOf-greater : (a b : ℕ) → b < a → relationOf ((a ∷ c) ∷ cs) ((b ∷ d) ∷ ds) ≡ Greater
+  unfolding relationOf leads same inTurn orElse relatedBy
+  relationOf-greater a b h = rw (ne-eqb a b (omega arith), ne-eqb b a (omega arith), number-greater a b h)
+
+-- ---- inside a component
+
+-- the first of what slashes part, empty or not, and the components behind it
+unfoldable pub opened : List (List ℕ) → List (List ℕ)
+opened [] = [] ∷ []
+opened (c ∷ cs) = c ∷ withoutEmpty cs
+
+-- the rest of the component in which p begins, and the components behind it
+unfoldable pub inside : List ℕ → List (List ℕ)
+inside p = opened (pieces p)
+
+-- what stands at the start of p, by its rank: a component's end, or a byte of it
+data Stands (p : List ℕ) : ℕ → Type 0 where
+  ends : inside p ≡ [] ∷ components p → Stands p 0
+  byte : (b : ℕ) (c : List ℕ) (cs : List (List ℕ)) → inside p ≡ (b ∷ c) ∷ cs → components p ≡ (b ∷ c) ∷ cs → inside (drop 1 p) ≡ c ∷ cs
+      → Stands p (b + 1)
+
+stands-byte : (b : ℕ) (p : List ℕ) (cs : List (List ℕ)) → pieces (b ∷ p) ≡ grown b cs → pieces p ≡ cs → Stands (b ∷ p) (b + 1)
+unfolding inside opened components withoutEmpty grown
+stands-byte b p [] e f = byte b [] [] (ap opened e) (ap withoutEmpty e) (ap opened f)
+stands-byte b p (c ∷ cs) e f = byte b c (withoutEmpty cs) (ap opened e) (ap withoutEmpty e) (ap opened f)
+
+stands : (p : List ℕ) → Stands p (rankOf p)
+unfolding rankOf inside opened components pieces parted withoutEmpty
+stands [] = ends refl
+stands (b ∷ p) = go (eqb b slash) refl
+  where
+    go : (t : Bool) → eqb b slash ≡ t → Stands (b ∷ p) (cond t 0 (b + 1))
+    go true e = ends (rw e)
+    go false e = stands-byte b p (pieces p) (pieces-byte b p (eqb-false b slash e)) refl
+
+-- ---- what two starts say of how the paths relate
+
+begins-by : {p : List ℕ} {n : ℕ} → Stands p n → 0 < n → components p ≡ inside p
+begins-by (ends e) h = absurd (omega arith)
+begins-by (byte b c cs e f g) h = f ∙ sym e
+
+-- where the other has no components left
+prefix-by : {q : List ℕ} {n : ℕ} → Stands q n → 0 < n → relationOf [] (components q) ≡ Prefix
+unfolding relationOf leads relatedBy
+prefix-by (ends e) h = absurd (omega arith)
+prefix-by (byte b d ds _ f _) h = rw f
+
+extension-by : {p : List ℕ} {n : ℕ} → Stands p n → 0 < n → relationOf (components p) [] ≡ Extension
+unfolding relationOf leads relatedBy
+extension-by (ends e) h = absurd (omega arith)
+extension-by (byte b c cs _ f _) h = rw f
+
+module _ {p q : List ℕ} where
+  ended-by : {m n : ℕ} → Stands p m → Stands q n → m ≡ 0 → n ≡ 0 → relationOf (inside p) (inside q) ≡ relationOf (components p) (components q)
+  ended-by (ends e) (ends f) h k = rw (e, f) (relationOf-empty _ _)
+  ended-by (ends e) (byte b d ds _ _ _) h k = absurd (omega arith)
+  ended-by (byte b c cs _ _ _) v h k = absurd (omega arith)
+
+  shared-by : {m n : ℕ} → Stands p m → Stands q n → m ≡ n → 0 < m → relationOf (inside p) (inside q) ≡ relationOf (inside (drop 1 p)) (inside (drop 1 q))
+  shared-by (ends e) v h k = absurd (omega arith)
+  shared-by (byte a c cs e _ f) (ends g) h k = absurd (omega arith)
+  shared-by (byte a c cs e _ f) (byte b d ds g _ i) h k = rw (e, f, g, i) (relationOf-byte c d cs ds a b (omega arith))
+
+  less-by : {m n : ℕ} → Stands p m → Stands q n → m < n → relationOf (inside p) (inside q) ≡ Less
+  unfolding relationOf leads same inTurn orElse relatedBy
+  less-by u (ends f) h = absurd (omega arith)
+  less-by (ends e) (byte b d ds f _ _) h = rw (e, f)
+  less-by (byte a c cs e _ _) (byte b d ds f _ _) h = rw (e, f) (relationOf-less c d cs ds a b (omega arith))
+
+  greater-by : {m n : ℕ} → Stands p m → Stands q n → n < m → relationOf (inside p) (inside q) ≡ Greater
+  unfolding relationOf leads same inTurn orElse relatedBy
+  greater-by (ends e) v h = absurd (omega arith)
+  greater-by (byte a c cs e _ _) (ends f) h = rw (e, f)
+  greater-by (byte a c cs e _ _) (byte b d ds f _ _) h = rw (e, f) (relationOf-greater c d cs ds a b (omega arith))
+
+-- ---- what stands at i
+
+module _ (p : List ℕ) (i : ℕ) where
+  pub rank-end : length p ≤ i → 0 ≡ rankOf (drop i p)
+  unfolding rankOf
+  rank-end h = rw (drop-of-length-le p h)
+
+  pub rank-slash : i < length p → getD p i 0 ≡ slash → 0 ≡ rankOf (drop i p)
+  unfolding rankOf
+  rank-slash h e = rw (drop-cons p i 0 h, eq-eqb _ _ e)
+
+  pub rank-byte : i < length p → (getD p i 0 ≡ slash → ⊥) → getD p i 0 + 1 ≡ rankOf (drop i p)
+  unfolding rankOf
+  rank-byte h e = rw (drop-cons p i 0 h, ne-eqb _ _ e)
+
+  pub rank-within : 0 < rankOf (drop i p) → i < length p
+  rank-within h = go (decLt i (length p))
+    where
+      go : Dec (i < length p) → i < length p
+      go (yes k) = k
+      go (no k) = absurd (omega (arith, rank-end (omega arith)))
+
+  components-end : length p ≤ i → components (drop i p) ≡ []
+  unfolding components pieces withoutEmpty
+  components-end h = rw (drop-of-length-le p h)
+
+  -- a slash lies before the same components
+  pub slash-passed : i < length p → getD p i 0 ≡ slash → components (drop (i + 1) p) ≡ components (drop i p)
+  unfolding components pieces parted withoutEmpty
+  slash-passed h e = rw (add-one i, drop-cons p i 0 h, eq-eqb _ _ e)
+
+-- ---- the two loops of `relate`
+
+-- i and j lie between components, and the components from there on decide
+pub record Between (p q : List ℕ) (i j : ℕ) : Type 0 where
+  pub left : i ≤ length p
+  pub right : j ≤ length q
+  pub decides : relation p q ≡ relationOf (components (drop i p)) (components (drop j q))
+
+pub between-start : (p q : List ℕ) → Between p q 0 0
+unfolding relation isPrefix pathOrder relationOf
+between-start p q = record { left = omega arith; right = omega arith; decides = refl }
+
+module _ {p q : List ℕ} {i j k l : ℕ} (s : Between p q i j) (b : Begins p i k) (d : Begins q j l) where
+  -- slashes passed in both
+  pub between-begins : Between p q k l
+  between-begins = record { left = b .within; right = d .within; decides = rw (b .same, d .same) (s .decides) }
+
+  pub both-end : k ≡ length p → l ≡ length q → Equal ≡ relation p q
+  unfolding relationOf leads relatedBy
+  both-end e f = sym (between-begins .decides ∙ ap₂ relationOf (components-end p k (omega arith)) (components-end q l (omega arith)))
+
+  pub first-ends : k ≡ length p → (l ≡ length q → ⊥) → Prefix ≡ relation p q
+  first-ends e f =
+      sym (between-begins .decides ∙ rw (components-end p k (omega arith)) (prefix-by (stands (drop l q)) (d .begins (omega (arith, d .within)))))
+
+  pub second-ends : (k ≡ length p → ⊥) → l ≡ length q → Extension ≡ relation p q
+  second-ends e f =
+      sym (between-begins .decides ∙ rw (components-end q l (omega arith)) (extension-by (stands (drop k p)) (b .begins (omega (arith, b .within)))))
+
+-- i and j lie inside components, that of p begun at i₀, and what is left of both decides
+pub record Inside (p q : List ℕ) (i₀ i j : ℕ) : Type 0 where
+  pub begun : 0 < rankOf (drop i₀ p)
+  pub behind : i₀ ≤ i
+  pub left : i ≤ length p
+  pub right : j ≤ length q
+  pub decides : relation p q ≡ relationOf (inside (drop i p)) (inside (drop j q))
+
+pub inside-start : {p q : List ℕ} {i j : ℕ} → Between p q i j → 0 < rankOf (drop i p) → 0 < rankOf (drop j q) → Inside p q i i j
+inside-start {p} {q} {i} {j} s h k = record {
+  begun = h;
+  behind = omega arith;
+  left = s .left;
+  right = s .right;
+  decides = s .decides ∙ ap₂ relationOf (begins-by (stands (drop i p)) h) (begins-by (stands (drop j q)) k);
+}
+
+-- a and b are the ranks at i and j
+module _ {p q : List ℕ} {i₀ i j a b : ℕ} (s : Inside p q i₀ i j) (e : a ≡ rankOf (drop i p)) (f : b ≡ rankOf (drop j q)) where
+  pub inside-again : a ≡ b → (a ≡ 0 → ⊥) → Inside p q i₀ (i + 1) (j + 1)
+  inside-again g n = record {
+    begun = s .begun;
+    behind = omega (arith, s .behind);
+    left = omega (arith, rank-within p i (omega arith));
+    right = omega (arith, rank-within q j (omega arith));
+    decides = s .decides ∙ rw (← drop-drop 1 i p, ← drop-drop 1 j q) (shared-by (stands (drop i p)) (stands (drop j q)) (omega arith) (omega arith));
+  }
+
+  pub inside-end : a ≡ b → a ≡ 0 → Between p q i j
+  inside-end g z = record {
+    left = s .left;
+    right = s .right;
+    decides = s .decides ∙ ended-by (stands (drop i p)) (stands (drop j q)) (omega arith) (omega arith);
+  }
+
+  -- at its end a component that began at i₀ has been left
+  pub inside-moved : a ≡ 0 → i₀ < i
+  inside-moved z = go (decLt i₀ i)
+    where
+      go : Dec (i₀ < i) → i₀ < i
+      go (yes h) = h
+      go (no h) =
+          let g : i₀ ≡ i = omega (arith, s .behind) in
+          absurd (omega (arith, s .begun, ap (λ (k : ℕ). rankOf (drop k p)) g))
+
+  pub inside-less : a < b → Less ≡ relation p q
+  inside-less h = sym (s .decides ∙ less-by (stands (drop i p)) (stands (drop j q)) (omega arith))
+
+  pub inside-greater : b < a → Greater ≡ relation p q
+  inside-greater h = sym (s .decides ∙ greater-by (stands (drop i p)) (stands (drop j q)) (omega arith))

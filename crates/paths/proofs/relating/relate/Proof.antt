@@ -1,0 +1,148 @@
+-- `relating::relate` meets its contract. The outer loop's invariant: i and j lie between components, and those from there on decide.
+-- The inner loop's: i and j lie inside components, and what is left of both decides. Both measures are what is left of the first path. Assumes nothing.
+use Prim.Native.Nat.{_-_}
+use native.Mathlib.Omega.{arith}
+use lib.ListN.{length}
+use borrow.Author.Needs.{needs}
+use Rattle.paths.proofs.RelatingLaws.{
+  Between,
+  between-start,
+  between-begins,
+  both-end,
+  first-ends,
+  second-ends,
+  Inside,
+  inside-start,
+  inside-again,
+  inside-end,
+  inside-moved,
+  inside-less,
+  inside-greater,
+}
+use Rattle.paths.proofs.relating.relate.Statement.{statement}
+use Rattle.paths.proofs.relating.relate.Tie as tie
+
+abbrev Inv-loop : tie.InvT-loop
+Inv-loop p q i₀ j₀ i j = Inside p q i₀ i j
+
+abbrev μ-loop : tie.MeasureT-loop
+μ-loop p q i₀ j₀ i j = length p - i
+
+abbrev Inv-components : tie.InvT-components
+Inv-components p q i₀ j₀ i j = Between p q i j
+
+abbrev μ-components : tie.MeasureT-components
+μ-components p q i₀ j₀ i j = length p - i
+
+components-holds : tie.Need-components-holds Inv-loop μ-loop Inv-components μ-components
+components-holds c = between-start _ _
+
+next-component-requires :
+    tie.Need-next-component-requires Inv-loop μ-loop Inv-components μ-components
+next-component-requires c κs = c .components .inv .left
+
+next-component-requires-2 :
+    tie.Need-next-component-requires-2 Inv-loop μ-loop Inv-components μ-components
+next-component-requires-2 c κs = c .before .components .inv .right
+
+returns : tie.Need-returns Inv-loop μ-loop Inv-components μ-components
+returns c =
+    let n = c .before .before in
+    both-end (n .before .before .components .inv) (n .before .next-component .ensures) (n .next-component2 .ensures) (c .before .if1 .taken) (c .if2 .taken)
+
+returns-2 : tie.Need-returns-2 Inv-loop μ-loop Inv-components μ-components
+returns-2 c =
+    let n = c .before .before in
+    first-ends (n .before .before .components .inv) (n .before .next-component .ensures) (n .next-component2 .ensures) (c .before .if1 .taken) (c .if2 .left)
+
+returns-3 : tie.Need-returns-3 Inv-loop μ-loop Inv-components μ-components
+returns-3 c =
+    let n = c .before .before in
+    second-ends (n .before .before .components .inv) (n .before .next-component .ensures) (n .next-component2 .ensures) (c .before .if1 .left) (c .if3 .taken)
+
+loop-holds : tie.Need-loop-holds Inv-loop μ-loop Inv-components μ-components
+loop-holds c =
+    let n = c .before .before in
+    let b = n .before .next-component .ensures in
+    let d = n .next-component2 .ensures in
+    inside-start (between-begins (n .before .before .components .inv) b d) (b .begins (omega arith)) (d .begins (omega arith))
+
+rank-requires : tie.Need-rank-requires Inv-loop μ-loop Inv-components μ-components
+rank-requires c κs = search needs
+
+rank-requires-2 : tie.Need-rank-requires-2 Inv-loop μ-loop Inv-components μ-components
+rank-requires-2 c κs = search needs
+
+components-less : tie.Need-components-less Inv-loop μ-loop Inv-components μ-components
+components-less c =
+    let r = c .before .before in
+    omega (
+      arith,
+      inside-moved (r .before .before .loop .inv) (r .before .rank .ensures) (r .rank2 .ensures) (c .if5 .taken),
+      r .before .before .before .before .before .before .next-component .ensures .behind,
+    )
+
+components-again : tie.Need-components-again Inv-loop μ-loop Inv-components μ-components
+components-again c =
+    let r = c .before .before in
+    inside-end (r .before .before .loop .inv) (r .before .rank .ensures) (r .rank2 .ensures) (omega arith) (c .if5 .taken)
+
+add-i : tie.Need-add-i Inv-loop μ-loop Inv-components μ-components
+add-i c = search needs
+
+add-j : tie.Need-add-j Inv-loop μ-loop Inv-components μ-components
+add-j c = search needs
+
+loop-less : tie.Need-loop-less Inv-loop μ-loop Inv-components μ-components
+loop-less c =
+    let r = c .before .before in
+    omega (arith, inside-again (r .before .before .loop .inv) (r .before .rank .ensures) (r .rank2 .ensures) (omega arith) (c .if5 .left) .left)
+
+loop-again : tie.Need-loop-again Inv-loop μ-loop Inv-components μ-components
+loop-again c =
+    let r = c .before .before in
+    inside-again (r .before .before .loop .inv) (r .before .rank .ensures) (r .rank2 .ensures) (omega arith) (c .if5 .left)
+
+rank-requires-3 : tie.Need-rank-requires-3 Inv-loop μ-loop Inv-components μ-components
+rank-requires-3 c κs = search needs
+
+rank-requires-4 : tie.Need-rank-requires-4 Inv-loop μ-loop Inv-components μ-components
+rank-requires-4 c κs = search needs
+
+returns-4 : tie.Need-returns-4 Inv-loop μ-loop Inv-components μ-components
+returns-4 c =
+    let r = c .before in
+    inside-less (r .before .before .before .before .before .loop .inv) (r .before .rank3 .ensures) (r .rank4 .ensures) (omega arith)
+
+returns-5 : tie.Need-returns-5 Inv-loop μ-loop Inv-components μ-components
+returns-5 c =
+    let r = c .before in
+    inside-greater (r .before .before .before .before .before .loop .inv) (r .before .rank3 .ensures) (r .rank4 .ensures) (omega arith)
+
+pub relate-spec : {M : Type 1} → statement M
+relate-spec =
+    tie.close
+    (tie.spec
+    Inv-loop
+    μ-loop
+    Inv-components
+    μ-components
+    components-holds
+    next-component-requires
+    next-component-requires-2
+    returns
+    returns-2
+    returns-3
+    loop-holds
+    rank-requires
+    rank-requires-2
+    components-less
+    components-again
+    add-i
+    add-j
+    loop-less
+    loop-again
+    rank-requires-3
+    rank-requires-4
+    returns-4
+    returns-5)

@@ -2,3 +2,6 @@ pub mod ComponentLaws
 pub mod ResolvingLaws
 pub mod RelationLaws
 pub mod RelatingLaws
+pub mod Scanning
+pub mod Entering
+pub mod Answering

@@ -2,3 +2,6 @@ pub mod Components
 pub mod Resolving
 pub mod Relations
 pub mod Relating
+pub mod Scanning
+pub mod Entering
+pub mod Answering

@@ -1,5 +1,6 @@
 -- Resolving: document 01's stand-in for `normalize_path`, and the form that it gives. Document 01, "Paths, at the bottom".
 use Prim.Native.Nat.{ℕ}
+use mathlib.Core.Path.{_≡_}
 use mathlib.Core.List.{List, [], _∷_, _++_, dropLast}
 use mathlib.Core.Bool.{Bool, true, false, _&&_, _||_, not, cond}
 use mathlib.Core.Option.{Option, none, some}
@@ -84,3 +85,8 @@ spaceAfter path space (some cause) = space
 -- the resolved path from the space's start and no more of it; on a refusal nothing
 unfoldable pub resolvedInto : List ℕ → List ℕ → List ℕ → List ℕ
 resolvedInto p cwd space = spaceAfter (resolve p cwd) space (firstCause (pathConditions p cwd))
+
+-- the answer of resolving, and the lent space after it
+pub record Resolves (path cwd space : List ℕ) (r : Resolution) (after : List ℕ) : Type 0 where
+  pub answer : r ≡ resolution path cwd
+  pub bytes : after ≡ resolvedInto path cwd space

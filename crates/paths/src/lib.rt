@@ -2,6 +2,7 @@
 use refusals::Refusal;
 
 pub mod relating;
+pub mod resolving;
 
 // How one path relates to another.
 pub enum Relation {

@@ -2,16 +2,19 @@
 use Prim.Native.Nat.{ℕ, _+_, _≤_, _<_}
 use mathlib.Core.Path.{_≡_, refl, sym, ap, _∙_, subst}
 use mathlib.Core.List.{List, [], _∷_}
+use mathlib.Core.Option.{Option, none, some}
 use mathlib.Core.Bool.{Bool, true, false, _||_, not, false≢true}
 use native.Mathlib.Omega.{arith}
 use native.Mathlib.Nat.{zero-add}
-use lib.ListN.{length, getD, take}
-use lib.Seq.{length-take-le}
+use lib.ListN.{length, getD, take, drop, length-append}
+use lib.Seq.{length-take-le, take-at}
 use lib.Dec.{eqb, ltb}
 use borrow.Author.Tests.{lt-ltb, le-ltb, ltb-false}
 use Rattle.paths.specs.Components.{slash, same, pieces, slashed, spell}
+use Rattle.refusals.specs.declared.Refusal.{Refusal}
 use Rattle.refusals.specs.declared.Refusal.the-variants.{EmptyPath, PathTooLong, BadDirectory, ResolvedTooLong}
 use Rattle.refusals.specs.Refusals.{firstCause}
+use Rattle.refusals.proofs.CauseLaws.{no-cause-head, no-cause-tail}
 use Rattle.paths.specs.declared.Resolution.{Resolution}
 use Rattle.paths.specs.declared.Resolution.the-variants.{Resolved, Refused}
 use Rattle.paths.specs.Resolving.{
@@ -181,3 +184,47 @@ module _ (p cwd space : List ℕ) where
             answer = a .answer ∙ rw (z, last-cause e);
             bytes = a .bytes ∙ rw (z, last-cause e);
           }
+
+-- ---- what an answer of resolving tells
+
+-- the path is resolved, with n bytes
+pub record Given (p cwd : List ℕ) (n : ℕ) : Type 0 where
+  pub free : firstCause (pathConditions p cwd) ≡ none
+  pub size : length (resolve p cwd) ≡ n
+  pub short : n ≤ maxPath
+
+resolved-by : (path : List ℕ) (n : ℕ) (cause : Option Refusal) → answered path cause ≡ Resolved n → (cause ≡ none) × (length path ≡ n)
+unfolding answered
+resolved-by path n none e = (refl, cc)
+resolved-by path n (some c) e = let z : _≡_ {A = ℕ} 0 1 = cc in absurd (omega arith)
+
+refused-by : (path : List ℕ) (c : Refusal) (cause : Option Refusal) → answered path cause ≡ Refused c → cause ≡ some c
+unfolding answered
+refused-by path c none e = let z : _≡_ {A = ℕ} 0 1 = cc in absurd (omega arith)
+refused-by path c (some d) e = cc
+
+pub no-cause-short : (p cwd : List ℕ) → firstCause (pathConditions p cwd) ≡ none → length (resolve p cwd) ≤ maxPath
+unfolding pathConditions
+no-cause-short p cwd e =
+    ltb-false _ _ (no-cause-head _ _ _ (no-cause-tail _ _ _ (no-cause-tail _ _ _ (no-cause-tail _ _ _ e))))
+
+pub resolution-resolved : (p cwd : List ℕ) (n : ℕ) → resolution p cwd ≡ Resolved n → Given p cwd n
+unfolding resolution
+resolution-resolved p cwd n e =
+    let b = resolved-by (resolve p cwd) n (firstCause (pathConditions p cwd)) e in
+    record { free = b .0; size = b .1; short = omega (arith, no-cause-short p cwd (b .0), b .1) }
+
+pub resolution-refused : (p cwd : List ℕ) (c : Refusal) → resolution p cwd ≡ Refused c → firstCause (pathConditions p cwd) ≡ some c
+unfolding resolution
+resolution-refused p cwd c e = refused-by (resolve p cwd) c (firstCause (pathConditions p cwd)) e
+
+-- the lent space begins with the resolved path
+pub given-space : (p cwd space after : List ℕ) (n : ℕ) → Given p cwd n → after ≡ resolvedInto p cwd space → take n after ≡ resolve p cwd
+unfolding resolvedInto spaceAfter
+given-space p cwd space after n g e = rw (e, g .free) (take-at (resolve p cwd) _ n (g .size))
+
+-- and so is no shorter
+pub given-room : (p cwd space after : List ℕ) (n : ℕ) → Given p cwd n → after ≡ resolvedInto p cwd space → n ≤ length after
+unfolding resolvedInto spaceAfter
+given-room p cwd space after n g e =
+    rw (e, g .free) (omega (arith, length-append (resolve p cwd) (drop (length (resolve p cwd)) space), g .size))

@@ -1,12 +1,16 @@
 -- Laws of the comparison of two entries.
-use Prim.Native.Nat.{ℕ, zero, suc}
+use Prim.Native.Nat.{ℕ, zero, suc, _^_, _<_}
 use mathlib.Core.Path.{_≡_, refl, sym, ap, ap₂, _∙_}
 use mathlib.Core.List.{List}
 use mathlib.Core.Bool.{Bool, true, false, _&&_, not, cond}
-use lib.IntN.{ℤ, pos, negsuc, negℤ}
+use lib.IntN.{ℤ, pos, negsuc, negℤ, _-ℤ_}
+use mir.Syntax.{w8}
+use lib.Signed.{mag}
+use mir.Val.{SFits, toZ, ofZ, hbits}
+use mir.Facts.{sfits-lit, toZ-ofZ}
 use Rattle.paths.specs.Relations.{isPrefix, pathOrder, numberOrder, less, greater}
-use Rattle.paths.proofs.RelationLaws.{numberOrder-turned, pathOrder-turned}
-use Rattle.table.specs.Entries.{Entry, isGranted, kindPrecedence, samePath, strictlyExtends, compareAlike, compareGranted, compare}
+use Rattle.paths.proofs.RelationLaws.{numberOrder-turned, pathOrder-turned, Said}
+use Rattle.table.specs.Entries.{Entry, isGranted, kindPrecedence, samePath, strictlyExtends, compareAlike, grantedOrder, compare}
 
 neg-neg : (x : ℤ) → negℤ (negℤ x) ≡ x
 neg-neg (pos zero) = refl
@@ -40,4 +44,53 @@ by-kinds false false alike alike′ grant grant′ e = e
 pub compare-turned : (old new : Entry) → compare new old ≡ negℤ (compare old new)
 unfolding compare
 compare-turned old new =
-    by-kinds (isGranted (old .kind)) (isGranted (new .kind)) _ _ (compareGranted old new) (compareGranted new old) (alike-turned old new)
+    by-kinds (isGranted (old .kind)) (isGranted (new .kind)) _ _ (grantedOrder (old .path) (new .path)) (grantedOrder (new .path) (old .path)) (alike-turned old new)
+
+-- ---- the comparison, by how the two paths relate
+
+pub alike-said : (old new : Entry) {a b : Bool} {o : ℤ} → Said (old .path) (new .path) a b o
+    → compareAlike old new ≡ cond (a && b) (numberOrder (kindPrecedence (old .kind)) (kindPrecedence (new .kind))) (cond (b && not a) less (cond (a && not b) greater o))
+unfolding compareAlike samePath strictlyExtends
+alike-said old new s = rw (s .prefix, s .extension, s .order)
+
+pub granted-said : (p q : List ℕ) {a b : Bool} {o : ℤ} → Said p q a b o → grantedOrder p q ≡ cond (b && not a) less greater
+unfolding grantedOrder strictlyExtends
+granted-said p q s = rw (s .prefix, s .extension)
+
+-- ---- and by whether the two kinds grant
+
+pub compare-by : (old new : Entry) {a b : Bool} → isGranted (old .kind) ≡ a → isGranted (new .kind) ≡ b
+    → compare old new
+    ≡ cond a (cond b (compareAlike old new) (grantedOrder (old .path) (new .path))) (cond b (negℤ (grantedOrder (new .path) (old .path))) (compareAlike old new))
+unfolding compare
+compare-by old new p q = rw (p, q)
+
+-- ---- the sign
+
+pub data Sign : ℤ → Type 0 where
+  minus : Sign (negsuc 0)
+  none : Sign (pos 0)
+  plus : Sign (pos 1)
+
+-- a grant with an entry of another kind is never equal, and its negative is a signed byte
+less-or-greater : (t : Bool) → Sign (cond t less greater)
+less-or-greater true = minus
+less-or-greater false = plus
+
+pub granted-sign : (p q : List ℕ) → Sign (grantedOrder p q)
+unfolding grantedOrder
+granted-sign p q = less-or-greater (strictlyExtends p q)
+
+pub negative-fits : (x : ℤ) → Sign x → SFits w8 (pos 0 -ℤ toZ w8 (ofZ w8 x))
+negative-fits x minus = sfits-lit tt
+negative-fits x none = sfits-lit tt
+negative-fits x plus = sfits-lit tt
+
+pub negative-is : (x : ℤ) → Sign x → toZ w8 (ofZ w8 (pos 0 -ℤ toZ w8 (ofZ w8 x))) ≡ negℤ x
+negative-is x minus = refl
+negative-is x none = refl
+negative-is x plus = refl
+
+-- a signed byte that a call returned
+pub read-back : (x : ℤ) → mag x < 2 ^ hbits w8 → toZ w8 (ofZ w8 x) ≡ x
+read-back x h = toZ-ofZ (record { sfits = h })

@@ -1,2 +1,12 @@
 pub mod ComparisonLaws
 pub mod PlacingLaws
+pub mod TableLaws
+pub mod Within
+pub mod ScanningLaws
+pub mod Moves
+pub mod Overwrites
+pub mod Codec
+pub mod Readback
+pub mod Puts
+pub mod Inserts
+pub mod FoundLaws

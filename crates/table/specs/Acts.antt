@@ -6,7 +6,9 @@ use mathlib.Core.Bool.{Bool, true, false, _&&_, not}
 use lib.ListN.{length}
 use lib.Dec.{leb, ltb}
 use Rattle.table.specs.Entries.{Entry, isGranted}
-use Rattle.table.specs.Placing.{Place, found, at, place, placedAt}
+use Rattle.table.specs.declared.Place.{Place}
+use Rattle.table.specs.declared.Place.the-variants.{Found, At}
+use Rattle.table.specs.Placing.{place, placedAt}
 use Rattle.table.specs.Tables.{Table, granted, clearBit, marked, maxEntries, maxPathBytes, pathBytes}
 use Rattle.paths.specs.Relations.{isPrefix}
 
@@ -31,8 +33,8 @@ unfoldable pub inserted : Table → Entry → Table
 inserted t e = insertedBy (place (t .entries) e) t e
 
 unfoldable pub adds : Place → Bool
-adds found = false
-adds (at k) = true
+adds Found = false
+adds (At k) = true
 
 -- an insert of e would add an entry
 unfoldable pub wouldAdd : Table → Entry → Bool

@@ -24,14 +24,14 @@ kindOf (suc (suc zero)) = some P
 kindOf (suc (suc (suc zero))) = some I
 kindOf (suc (suc (suc (suc n)))) = none
 
-unfoldable pub isGranted : Kind → Bool
+abbrev pub isGranted : Kind → Bool
 isGranted G = true
 isGranted D = false
 isGranted P = false
 isGranted I = false
 
 -- the Rust's `kind_precedence`: on equal paths D goes first, then P, then I. No comparison that asks for it mixes G with the others.
-unfoldable pub kindPrecedence : Kind → ℕ
+abbrev pub kindPrecedence : Kind → ℕ
 kindPrecedence D = 0
 kindPrecedence P = 1
 kindPrecedence I = 2
@@ -63,13 +63,13 @@ compareAlike old new =
     (cond (strictlyExtends (new .path) (old .path)) greater
     (pathOrder (old .path) (new .path))))
 
--- G, as the old entry, with D, I or P: before it only if its path strictly extends theirs; otherwise after
-unfoldable pub compareGranted : Entry → Entry → ℤ
-compareGranted old new = cond (strictlyExtends (old .path) (new .path)) less greater
+-- G, as the old entry, with D, I or P, by their paths: before them only if its path strictly extends theirs; otherwise after
+unfoldable pub grantedOrder : List ℕ → List ℕ → ℤ
+grantedOrder old new = cond (strictlyExtends old new) less greater
 
 -- an old entry with a new one: −1 where the old one comes before, 1 where it comes after
 unfoldable pub compare : Entry → Entry → ℤ
 compare old new =
     cond (isGranted (old .kind))
-    (cond (isGranted (new .kind)) (compareAlike old new) (compareGranted old new))
-    (cond (isGranted (new .kind)) (negℤ (compareGranted new old)) (compareAlike old new))
+    (cond (isGranted (new .kind)) (compareAlike old new) (grantedOrder (old .path) (new .path)))
+    (cond (isGranted (new .kind)) (negℤ (grantedOrder (new .path) (old .path))) (compareAlike old new))

@@ -3,3 +3,4 @@ pub mod Placing
 pub mod Tables
 pub mod Acts
 pub mod Memory
+pub mod Scanning

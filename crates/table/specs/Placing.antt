@@ -6,6 +6,8 @@ use mathlib.Core.Bool.{Bool, true, false, cond}
 use lib.ListN.{length, getD, take, drop}
 use lib.Dec.{leb}
 use lib.IntN.{ℤ, pos, negsuc}
+use Rattle.table.specs.declared.Place.{Place}
+use Rattle.table.specs.declared.Place.the-variants.{Found, At}
 use Rattle.table.specs.Entries.{Entry, compare}
 
 -- a comparison that gave 1
@@ -28,24 +30,19 @@ searchFrom entries new (suc turns) base size =
 unfoldable pub search : List Entry → Entry → ℕ
 search entries new = searchFrom entries new (length entries) 0 (length entries)
 
--- an equal entry is found, or the new one goes to a place
-pub data Place : Type 0 where
-  found : Place
-  at : ℕ → Place
-
--- the entry at base is compared: 0 adds nothing, −1 places after it, 1 before
+-- the entry at base is compared: 0 adds nothing, as an equal entry is found; −1 places after it, 1 before
 unfoldable pub placeBy : ℕ → ℤ → Place
-placeBy base (pos zero) = found
-placeBy base (negsuc n) = at (base + 1)
-placeBy base (pos (suc n)) = at base
+placeBy base (pos zero) = Found
+placeBy base (negsuc n) = At (base + 1)
+placeBy base (pos (suc n)) = At base
 
 unfoldable pub place : List Entry → Entry → Place
-place [] new = at 0
+place [] new = At 0
 place (e ∷ es) new =
     let base = search (e ∷ es) new in
     placeBy base (compare (getD (e ∷ es) base new) new)
 
 -- the list with the new entry at its place
 unfoldable pub placedAt : Place → List Entry → Entry → List Entry
-placedAt found entries new = entries
-placedAt (at k) entries new = take k entries ++ new ∷ drop k entries
+placedAt Found entries new = entries
+placedAt (At k) entries new = take k entries ++ new ∷ drop k entries

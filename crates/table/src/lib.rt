@@ -1,4 +1,8 @@
-// The table: entries in sequence, switches and marks, and the acts on it. The definitions are in specs/.
+// The table: entries in sequence, switches and marks, in lent memory, and the acts on it. The definitions are in specs/.
+pub mod comparing;
+pub mod inserting;
+pub mod reading;
+pub mod writing;
 
 // The kinds of an entry, by document 01's letters. The Rust's names are Granted, FlagDenied, PromptDenied and FlagIgnored.
 pub enum Kind {
@@ -6,4 +10,10 @@ pub enum Kind {
     D,
     P,
     I,
+}
+
+// Where an insert puts its entry: nowhere, as an equal one is found, or at a place of the list.
+pub enum Place {
+    Found,
+    At(usize),
 }

@@ -18,7 +18,7 @@ use Rattle.walk.specs.Walk.{
   queryDesc,
 }
 use Rattle.table.specs.declared.Kind.{Kind}
-use Rattle.table.specs.Entries.{isGranted, kindPrecedence, samePath, strictlyExtends, compareAlike, compareGranted, compare}
+use Rattle.table.specs.Entries.{isGranted, samePath, strictlyExtends, compareAlike, grantedOrder, compare}
 use Rattle.table.specs.Placing.{isAfter, searchFrom, search, placeBy, place, placedAt}
 use Rattle.table.specs.Tables.{has, setBit, clearBit, marked, any}
 use Rattle.table.specs.Acts.{insertedBy, inserted, keptUnless, without, revokedBy, applyAct, applyActs}
@@ -36,7 +36,7 @@ either x false false = refl
 pub starred : EveryRow rows
 unfolding Right bytes entry
     matchesKind matches firstMatch isFlag isPartial allowed decidedBy isDeniedMode isDenied withoutMatch byMatch queryDesc
-    isGranted kindPrecedence samePath strictlyExtends compareAlike compareGranted compare
+    samePath strictlyExtends compareAlike grantedOrder compare
     isAfter searchFrom search placeBy place placedAt
     has setBit clearBit marked any
     insertedBy inserted keptUnless without revokedBy applyAct applyActs

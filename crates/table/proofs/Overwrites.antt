@@ -1,0 +1,99 @@
+-- Laws of `overwrite`: its length, two that touch, and stores that are one.
+use Prim.Native.Nat.{ℕ, _+_, _/_, _%_, _≤_}
+use mathlib.Core.Path.{_≡_, sym, ap, _∙_}
+use mathlib.Core.List.{List, [], _∷_, _++_, append-assoc}
+use native.Mathlib.Omega.{arith}
+use native.Mathlib.Nat.{add-assoc}
+use native.Mathlib.Numerals.{towards-suc}
+use lib.ListN.{length, take, drop, set, length-append, length-drop}
+use lib.Seq.{sets, sets-eq, take-at, drop-at, take-append-le, drop-append-add, take-take, drop-drop, length-take-le}
+use Rattle.table.specs.Entries.{Entry, kindNumber}
+use Rattle.table.specs.Memory.{overwrite, encodeEntry}
+
+pub over-sets : (vs l : List ℕ) (i : ℕ) → i + length vs ≤ length l → sets l i vs ≡ overwrite l i vs
+unfolding overwrite
+over-sets vs l i h = sets-eq vs l i h
+
+module _ (m : List ℕ) (at : ℕ) (s : List ℕ) (h : at + length s ≤ length m) where
+  pub length-overwrite : length (overwrite m at s) ≡ length m
+  unfolding overwrite
+  length-overwrite = simp (length-append, length-drop, length-take-le at m (omega arith)) (omega arith)
+
+  length-front : length (take at m ++ s) ≡ at + length s
+  length-front = simp (length-append, length-take-le at m (omega arith))
+
+  -- what lies before, up to its end, and behind it
+  pub take-before : (k : ℕ) → k ≤ at → take k (overwrite m at s) ≡ take k m
+  unfolding overwrite
+  take-before k le =
+      let e = length-take-le at m (omega arith) in
+      ap (take k) (append-assoc (take at m) s (drop (at + length s) m))
+      ∙ take-append-le k (take at m) _ (omega arith)
+      ∙ take-take k at m le
+
+  pub take-over : take (at + length s) (overwrite m at s) ≡ take at m ++ s
+  unfolding overwrite
+  take-over = take-at (take at m ++ s) _ _ length-front
+
+  pub drop-from : drop at (overwrite m at s) ≡ s ++ drop (at + length s) m
+  unfolding overwrite
+  drop-from =
+      ap (drop at) (append-assoc (take at m) s (drop (at + length s) m))
+      ∙ drop-at (take at m) _ at (length-take-le at m (omega arith))
+
+  pub drop-behind : (k : ℕ) → drop (at + length s + k) (overwrite m at s) ≡ drop (at + length s + k) m
+  unfolding overwrite
+  drop-behind k =
+      ap (λ (j : ℕ). drop (j + k) (overwrite m at s)) (sym length-front)
+      ∙ drop-append-add (take at m ++ s) (drop (at + length s) m) k
+      ∙ drop-drop k (at + length s) m
+
+-- s′ written behind s
+pub over-above : (m : List ℕ) (at : ℕ) (s s′ : List ℕ) → at + length s ≤ length m
+    → overwrite (overwrite m at s) (at + length s) s′ ≡ overwrite m at (s ++ s′)
+unfolding overwrite
+over-above m at s s′ h =
+    rw (
+      take-over m at s h,
+      drop-behind m at s h (length s′),
+      append-assoc (take at m) s s′,
+      length-append s s′,
+      add-assoc at (length s) (length s′),
+    )
+
+-- s written before s′
+pub over-below : (m : List ℕ) (at : ℕ) (s s′ : List ℕ) → at + length s + length s′ ≤ length m
+    → overwrite (overwrite m (at + length s) s′) at s ≡ overwrite m at (s ++ s′)
+unfolding overwrite
+over-below m at s s′ h =
+    rw (
+      take-before m (at + length s) s′ h at (omega arith),
+      drop-from m (at + length s) s′ h,
+      length-append s s′,
+      ← add-assoc at (length s) (length s′),
+    )
+    (sym (append-assoc (take at m ++ s) s′ _)
+    ∙ ap (λ (l : List ℕ). l ++ drop (at + length s + length s′) m) (append-assoc (take at m) s s′))
+
+-- an entry's three bytes stored one by one, and then its path
+stores : (m : List ℕ) (at k a b : ℕ) → at + 3 ≤ length m
+    → set (set (set m at k) (at + 1) a) (at + 2) b ≡ overwrite m at (k ∷ a ∷ b ∷ [])
+stores m at k a b h = simp towards-suc (over-sets (k ∷ a ∷ b ∷ []) m at h)
+
+pub written : (m : List ℕ) (at : ℕ) (e : Entry) (n : ℕ) → at + 3 + length (e .path) ≤ length m → n ≡ kindNumber (e .kind)
+    → overwrite (set (set (set m at n) (at + 1) (length (e .path) / 256)) (at + 2) (length (e .path) % 256)) (at + 3) (e .path)
+    ≡ overwrite m at (encodeEntry e)
+unfolding encodeEntry
+written m at e n h k =
+    rw (stores m at n (length (e .path) / 256) (length (e .path) % 256) (omega arith), k)
+    (over-above m at (kindNumber (e .kind) ∷ length (e .path) / 256 ∷ length (e .path) % 256 ∷ []) (e .path) (omega arith))
+
+-- s is written from `at` on, and then the first two bytes of a head of four
+pub headed : (m : List ℕ) (h₀ h₁ h₂ h₃ : ℕ) (l s : List ℕ) (at a b : ℕ) → take at m ≡ h₀ ∷ h₁ ∷ h₂ ∷ h₃ ∷ l → at ≤ length m
+    → overwrite (overwrite m at s) 0 (a ∷ b ∷ []) ≡ (a ∷ b ∷ h₂ ∷ h₃ ∷ (l ++ s)) ++ drop (length (a ∷ b ∷ h₂ ∷ h₃ ∷ (l ++ s))) m
+unfolding overwrite
+headed m h₀ h₁ h₂ h₃ l s at a b f i =
+    let size : at + length s ≡ length (a ∷ b ∷ h₂ ∷ h₃ ∷ (l ++ s)) =
+    simp length-append (omega (arith, sym (length-take-le at m i) ∙ ap length f))
+    in
+    rw (f, size)

@@ -1,0 +1,197 @@
+-- What memory that holds a table has, and what a walk over its entries goes by.
+use Prim.Native.Nat.{ℕ, zero, suc, _+_, _-_, _≤_, _<_}
+use mathlib.Core.Path.{_≡_, refl, sym, ap, subst}
+use mathlib.Core.List.{List, [], _∷_}
+use mathlib.Core.Bool.{true, _&&_}
+use native.Mathlib.Omega.{arith}
+use native.Mathlib.Nat.{not-suc-le-zero, le-of-suc-le-suc, suc-sub-suc, sub-zero}
+use lib.ListN.{length, getD, drop, length-drop}
+use lib.Seq.{length-take-le}
+use lib.Dec.{leb}
+use borrow.Author.Tests.{leb-true, le-leb}
+use Rattle.table.specs.declared.Kind.{Kind}
+use Rattle.table.specs.declared.Kind.the-variants.{G, D, P, I}
+use Rattle.table.specs.Entries.{kindNumber}
+use Rattle.table.specs.Tables.{maxEntries, maxPathBytes, maxSwitches, pathBytes, isEntry, every, marksOf}
+use Rattle.table.specs.Memory.{
+  tableBytes,
+  wordAt,
+  lenAt,
+  nextAt,
+  kindFrom,
+  entryAt,
+  entriesAt,
+  offsetAt,
+  tableOf,
+  areWithin,
+  holds,
+}
+use Rattle.table.proofs.TableLaws.{valid-parts, marks-small}
+use Rattle.paths.specs.Resolving.{maxPath, isResolved}
+use Rattle.paths.proofs.ComponentLaws.{and-left, and-right}
+
+-- ---- kinds
+
+pub kind-number : (k : Kind) → kindFrom (kindNumber k) ≡ k
+unfolding kindFrom
+kind-number G = refl
+kind-number D = refl
+kind-number P = refl
+kind-number I = refl
+
+pub number-kind : (n : ℕ) → n ≤ 3 → kindNumber (kindFrom n) ≡ n
+unfolding kindFrom
+number-kind zero h = refl
+number-kind (suc zero) h = refl
+number-kind (suc (suc zero)) h = refl
+number-kind (suc (suc (suc zero))) h = refl
+number-kind (suc (suc (suc (suc n)))) h = omega arith
+
+pub number-small : (k : Kind) → kindNumber k ≤ 3
+number-small G = omega arith
+number-small D = omega arith
+number-small P = omega arith
+number-small I = omega arith
+
+-- ---- one step, where a loop counts down, and none left, where it ends
+
+pub pred-suc : (n : ℕ) → 0 < n → n ≡ suc (n - 1)
+pred-suc n h = omega arith
+
+module _ (m : List ℕ) (n : ℕ) (h : 0 < n) (at : ℕ) where
+  pub entriesAt-step : entriesAt m n at ≡ entryAt m at ∷ entriesAt m (n - 1) (nextAt m at)
+  unfolding entriesAt
+  entriesAt-step = ap (λ (k : ℕ). entriesAt m k at) (pred-suc n h)
+
+  pub offsetAt-step : offsetAt m n at ≡ offsetAt m (n - 1) (nextAt m at)
+  unfolding offsetAt
+  offsetAt-step = ap (λ (k : ℕ). offsetAt m k at) (pred-suc n h)
+
+pub entriesAt-none : (m : List ℕ) (n at : ℕ) → n ≤ 0 → entriesAt m n at ≡ []
+unfolding entriesAt
+entriesAt-none m zero at h = refl
+entriesAt-none m (suc n) at h = absurd (not-suc-le-zero h)
+
+pub offsetAt-none : (m : List ℕ) (n at : ℕ) → n ≤ 0 → offsetAt m n at ≡ at
+unfolding offsetAt
+offsetAt-none m zero at h = refl
+offsetAt-none m (suc n) at h = absurd (not-suc-le-zero h)
+
+pub length-entries : (m : List ℕ) (n at : ℕ) → length (entriesAt m n at) ≡ n
+unfolding entriesAt
+length-entries m zero at = refl
+length-entries m (suc n) at = ap suc (length-entries m n (nextAt m at))
+
+-- ---- memory that holds a table
+
+pub record Held (m : List ℕ) : Type 0 where
+  pub long : tableBytes ≤ length m
+  pub few : wordAt m 0 ≤ maxEntries
+  pub bytes : pathBytes (entriesAt m (wordAt m 0) 4) ≤ maxPathBytes
+  pub switches : getD m 2 0 ≤ maxSwitches
+  pub marks : getD m 3 0 ≡ marksOf (entriesAt m (wordAt m 0) 4)
+  pub within : areWithin m (wordAt m 0) 4 ≡ true
+  pub each : every isEntry (entriesAt m (wordAt m 0) 4) ≡ true
+
+pub held : (m : List ℕ) → holds m ≡ true → Held m
+unfolding holds tableOf
+held m e =
+    let a = leb tableBytes (length m) in
+    let b = areWithin m (wordAt m 0) 4 in
+    let e₁ = and-left (a && b) _ e in
+    let v = valid-parts (tableOf m) (and-right (a && b) _ e) in
+    record {
+      long = leb-true _ _ (and-left a _ e₁);
+      few = omega (arith, v .few, length-entries m (wordAt m 0) 4);
+      bytes = v .bytes;
+      switches = v .switches;
+      marks = v .marks;
+      within = and-right a _ e₁;
+      each = v .each;
+    }
+
+pub marks-of : (m : List ℕ) → holds m ≡ true → getD m 3 0 ≤ 7
+marks-of m e = rw (held m e .marks) (marks-small (entriesAt m (wordAt m 0) 4))
+
+-- ---- a walk over the entries
+
+-- n entries from `at` on lie within the memory and within the limits
+pub record Rest (m : List ℕ) (n at : ℕ) : Type 0 where
+  pub within : areWithin m n at ≡ true
+  pub each : every isEntry (entriesAt m n at) ≡ true
+
+pub rest-start : (m : List ℕ) → holds m ≡ true → Rest m (wordAt m 0) 4
+rest-start m e =
+    let h = held m e in
+    record { within = h .within; each = h .each }
+
+-- what the entry at `at` has
+pub record Here (m : List ℕ) (at : ℕ) : Type 0 where
+  pub kind : getD m at 0 ≤ 3
+  pub inside : nextAt m at ≤ length m
+  pub short : lenAt m at ≤ maxPath
+  pub resolved : isResolved (entryAt m at .path) ≡ true
+  pub good : isEntry (entryAt m at) ≡ true
+
+-- the path of an entry that lies within the memory has the length that the entry says
+pub length-path : (m : List ℕ) (at : ℕ) → nextAt m at ≤ length m → length (entryAt m at .path) ≡ lenAt m at
+length-path m at h = length-take-le (lenAt m at) (drop (at + 3) m) (simp length-drop (omega arith))
+
+-- where a definition recurses
+module _ {m : List ℕ} {n at : ℕ} (r : Rest m (suc n) at) where
+  first-within : leb (getD m at 0) 3 && leb (nextAt m at) (length m) ≡ true
+  unfolding areWithin
+  first-within = and-left (leb (getD m at 0) 3 && leb (nextAt m at) (length m)) _ (r .within)
+
+  pub here-suc : Here m at
+  unfolding isEntry every entriesAt
+  here-suc =
+      let inside = leb-true _ _ (and-right (leb (getD m at 0) 3) _ first-within) in
+      let good = and-left (isEntry (entryAt m at)) _ (r .each) in
+      let short : length (entryAt m at .path) ≤ maxPath = leb-true _ _ (and-left (leb (length (entryAt m at .path)) maxPath) _ good) in
+      record {
+        kind = leb-true _ _ (and-left (leb (getD m at 0) 3) _ first-within);
+        inside = inside;
+        short = omega (arith, length-path m at inside);
+        resolved = and-right (leb (length (entryAt m at .path)) maxPath) _ good;
+        good = good;
+      }
+
+  pub rest-suc : Rest m n (nextAt m at)
+  unfolding areWithin every entriesAt
+  rest-suc = record {
+    within = and-right (leb (getD m at 0) 3 && leb (nextAt m at) (length m)) _ (r .within);
+    each = and-right (isEntry (entryAt m at)) _ (r .each);
+  }
+
+-- where a loop counts down
+module _ {m : List ℕ} {n at : ℕ} (h : 0 < n) (r : Rest m n at) where
+  rest-again : Rest m (suc (n - 1)) at
+  rest-again = subst (λ (k : ℕ). Rest m k at) (pred-suc n h) r
+
+  pub rest-here : Here m at
+  rest-here = here-suc rest-again
+
+  pub rest-next : Rest m (n - 1) (nextAt m at)
+  rest-next = rest-suc rest-again
+
+-- the first k entries of n, and those behind them
+pub rest-take : (m : List ℕ) (k n at : ℕ) → k ≤ n → Rest m n at → Rest m k at
+unfolding areWithin every entriesAt
+rest-take m zero n at h r = record { within = refl; each = refl }
+rest-take m (suc k) zero at h r = absurd (not-suc-le-zero h)
+rest-take m (suc k) (suc n) at h r =
+    let i = here-suc r in
+    let s = rest-take m k n (nextAt m at) (le-of-suc-le-suc h) (rest-suc r) in
+    record {
+      within = rw (le-leb _ _ (i .kind), le-leb _ _ (i .inside)) (s .within);
+      each = rw (i .good) (s .each);
+    }
+
+pub rest-drop : (m : List ℕ) (k n at : ℕ) → k ≤ n → Rest m n at → Rest m (n - k) (offsetAt m k at)
+unfolding offsetAt
+rest-drop m zero n at h r = subst (λ (j : ℕ). Rest m j at) (sym (sub-zero n)) r
+rest-drop m (suc k) zero at h r = absurd (not-suc-le-zero h)
+rest-drop m (suc k) (suc n) at h r =
+    subst (λ (j : ℕ). Rest m j (offsetAt m k (nextAt m at))) (sym (suc-sub-suc n k))
+    (rest-drop m k n (nextAt m at) (le-of-suc-le-suc h) (rest-suc r))

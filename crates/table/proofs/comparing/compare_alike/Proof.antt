@@ -1,0 +1,74 @@
+-- `compare_alike` meets its contract: each answer of `relate` gives the order, and equal paths go by the kinds' precedence.
+use mathlib.Core.Path.{sym, ap₂, _∙_}
+use Rattle.paths.specs.Relations.{numberOrder}
+use Rattle.paths.proofs.RelationLaws.{relation-equal, relation-prefix, relation-extension, relation-less, relation-greater}
+use Rattle.table.proofs.ComparisonLaws.{alike-said, read-back}
+use borrow.Author.Needs.{needs}
+use Rattle.table.proofs.comparing.compare_alike.Statement.{statement}
+use Rattle.table.proofs.comparing.compare_alike.Tie as tie
+use Rattle.paths.proofs.relating.relate.Reads as relate-reads
+use Rattle.table.proofs.comparing.kind_precedence.Reads as kind-precedence-reads
+use Rattle.table.proofs.comparing.number_order.Reads as number-order-reads
+
+relate-requires : tie.Need-relate-requires
+relate-requires c κs = search needs
+
+enum-told : tie.Need-enum-told
+enum-told c = search needs
+
+kind-precedence-requires : tie.Need-kind-precedence-requires
+kind-precedence-requires c κs = search needs
+
+kind-precedence-requires-2 : tie.Need-kind-precedence-requires-2
+kind-precedence-requires-2 c κs = search needs
+
+number-order-requires : tie.Need-number-order-requires
+number-order-requires c κs = search needs
+
+enum-told-2 : tie.Need-enum-told-2
+enum-told-2 c = search needs
+
+enum-told-3 : tie.Need-enum-told-3
+enum-told-3 c = search needs
+
+enum-told-4 : tie.Need-enum-told-4
+enum-told-4 c = search needs
+
+enum-told-5 : tie.Need-enum-told-5
+enum-told-5 c = search needs
+
+returns : tie.Need-returns
+returns c =
+    read-back _ (c .number-order .ok) ∙ c .number-order .ensures ∙ ap₂ numberOrder (c .before .before .kind-precedence .ensures) (c .before .kind-precedence2 .ensures)
+    ∙ sym (alike-said _ _ (relation-equal _ _ (sym (c .before .before .before .before .before .relate .ensures) ∙ c .before .before .before .enum-told .given .1)))
+
+returns-2 : tie.Need-returns-2
+returns-2 c = sym (alike-said _ _ (relation-prefix _ _ (sym (c .before .before .relate .ensures) ∙ c .enum-told2 .given .1)))
+
+returns-3 : tie.Need-returns-3
+returns-3 c = sym (alike-said _ _ (relation-extension _ _ (sym (c .before .before .relate .ensures) ∙ c .enum-told3 .given .1)))
+
+returns-4 : tie.Need-returns-4
+returns-4 c = sym (alike-said _ _ (relation-less _ _ (sym (c .before .before .relate .ensures) ∙ c .enum-told4 .given .1)))
+
+returns-5 : tie.Need-returns-5
+returns-5 c = sym (alike-said _ _ (relation-greater _ _ (sym (c .before .before .relate .ensures) ∙ c .enum-told5 .given .1)))
+
+pub compare-alike-spec : {M : Type 1} → statement M
+compare-alike-spec =
+    tie.close
+    (tie.spec
+    relate-requires
+    enum-told
+    kind-precedence-requires
+    kind-precedence-requires-2
+    number-order-requires
+    enum-told-2
+    enum-told-3
+    enum-told-4
+    enum-told-5
+    returns
+    returns-2
+    returns-3
+    returns-4
+    returns-5)

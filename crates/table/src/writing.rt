@@ -1,0 +1,76 @@
+// Writing into lent memory: each function writes a run of bytes from an offset on, and nothing else.
+use crate::Kind;
+ghost use mathlib.Core.Path.{_≡_};
+ghost use Prim.Native.Nat.{_+_, _<_, _≤_};
+ghost use lib.ListN.{length, take, drop};
+ghost use Rattle.table.specs.Entries.{Entry, kindNumber};
+ghost use Rattle.table.specs.Memory.{word, encodeEntry, overwrite};
+
+// The kind byte of a kind.
+pub fn kind_number(kind: Kind) -> u8
+    ensures { λ r. ⌜ r ≡ kindNumber kind ⌝ }
+{
+    match kind {
+        Kind::G => 0,
+        Kind::D => 1,
+        Kind::P => 2,
+        Kind::I => 3,
+    }
+}
+
+// Moves n bytes to a higher offset, the last byte first.
+pub fn move_up(mem: &mut [u8], from: usize, to: usize, n: usize)
+    requires { ⌜ (from ≤ to) × (to + n ≤ length (now mem)) ⌝ }
+    ensures { λ _. ⌜ now (mem .exit) ≡ overwrite (now (mem .entry)) to (take n (drop from (now (mem .entry)))) ⌝ }
+{
+    let mut left = n;
+    while left > 0 {
+        left -= 1;
+        mem[to + left] = mem[from + left];
+    }
+}
+
+// Moves n bytes to a lower offset, the first byte first.
+pub fn move_down(mem: &mut [u8], from: usize, to: usize, n: usize)
+    requires { ⌜ (to ≤ from) × (from + n ≤ length (now mem)) ⌝ }
+    ensures { λ _. ⌜ now (mem .exit) ≡ overwrite (now (mem .entry)) to (take n (drop from (now (mem .entry)))) ⌝ }
+{
+    let mut i: usize = 0;
+    while i < n {
+        mem[to + i] = mem[from + i];
+        i += 1;
+    }
+}
+
+// Copies src into mem from an offset on.
+pub fn copy_in(mem: &mut [u8], at: usize, src: &[u8])
+    requires { ⌜ at + length (now src) ≤ length (now mem) ⌝ }
+    ensures { λ _. ⌜ now (mem .exit) ≡ overwrite (now (mem .entry)) at (now (src .entry)) ⌝ }
+{
+    let mut i: usize = 0;
+    while i < src.len() {
+        mem[at + i] = src[i];
+        i += 1;
+    }
+}
+
+// Writes the count.
+pub fn set_count(mem: &mut [u8], n: usize)
+    requires { ⌜ (n < 65536) × (2 ≤ length (now mem)) ⌝ }
+    ensures { λ _. ⌜ now (mem .exit) ≡ overwrite (now (mem .entry)) 0 (word n) ⌝ }
+{
+    mem[0] = (n / 256) as u8;
+    mem[1] = (n % 256) as u8;
+}
+
+// Writes an entry from an offset on.
+pub fn write_entry(mem: &mut [u8], at: usize, kind: Kind, path: &[u8])
+    requires { ⌜ (length (now path) < 65536) × (at + 3 + length (now path) ≤ length (now mem)) ⌝ }
+    ensures { λ _. ⌜ now (mem .exit) ≡ overwrite (now (mem .entry)) at (encodeEntry (record { kind = kind; path = now (path .entry) })) ⌝ }
+{
+    let len = path.len();
+    mem[at] = kind_number(kind);
+    mem[at + 1] = (len / 256) as u8;
+    mem[at + 2] = (len % 256) as u8;
+    copy_in(mem, at + 3, path);
+}

@@ -17,7 +17,7 @@ use Rattle.walk.specs.declared.PermissionState.the-variants.{
 }
 use Rattle.walk.specs.declared.AllowPartial.{AllowPartial}
 use Rattle.walk.specs.declared.AllowPartial.the-variants.{TreatAsDenied, TreatAsPartialGranted, TreatAsGranted}
-use Rattle.walk.specs.Walk.{Descriptor, noPath, path, queryDesc}
+use Rattle.walk.specs.Walk.{Query, noPath, path, queryDesc}
 use Rattle.table.specs.declared.Kind.{Kind}
 use Rattle.table.specs.declared.Kind.the-variants.{G, D, P, I}
 use Rattle.table.specs.Entries.{Entry, compare}
@@ -48,7 +48,7 @@ pub data Case : Type 0 where
   -- acts on a fresh table, and the list that they leave
   list : List Act → List Entry → Case
   -- acts on a fresh table, a query, and its state; where a line names no mode it is partial, as in the Rust's `query`
-  query : List Act → AllowPartial → Descriptor → PermissionState → Case
+  query : List Act → AllowPartial → Query → PermissionState → Case
 
 -- the definitions give what the case expects
 unfoldable pub Right : Case → Type 0

@@ -2,7 +2,8 @@
 use Prim.Native.Nat.{ℕ, zero, suc}
 use mathlib.Core.List.{List, [], _∷_}
 use mathlib.Core.Option.{Option, none, some}
-use mathlib.Core.Bool.{Bool, true, false, _&&_, _||_, cond}
+use mathlib.Core.Bool.{Bool, true, false, _&&_, _||_, not, cond}
+use lib.Dec.{eqb}
 use Rattle.walk.specs.declared.PermissionState.{PermissionState}
 use Rattle.walk.specs.declared.PermissionState.the-variants.{
   Granted,
@@ -14,6 +15,8 @@ use Rattle.walk.specs.declared.PermissionState.the-variants.{
 }
 use Rattle.walk.specs.declared.AllowPartial.{AllowPartial}
 use Rattle.walk.specs.declared.AllowPartial.the-variants.{TreatAsDenied, TreatAsPartialGranted, TreatAsGranted}
+use Rattle.walk.specs.declared.Descriptor.{Descriptor}
+use Rattle.walk.specs.declared.Descriptor.the-variants.{NoPath, Path}
 use Rattle.table.specs.declared.Kind.{Kind}
 use Rattle.table.specs.declared.Kind.the-variants.{G, D, P, I}
 use Rattle.table.specs.Entries.{Entry}
@@ -58,9 +61,14 @@ modeOf (suc (suc (suc n))) = none
 -- ---- what is asked about
 
 -- no path, or a resolved one
-pub data Descriptor : Type 0 where
-  noPath : Descriptor
-  path : List ℕ → Descriptor
+pub data Query : Type 0 where
+  noPath : Query
+  path : List ℕ → Query
+
+-- a descriptor says whether there is a path, with the bytes lent beside it
+unfoldable pub queryOf : Descriptor → List ℕ → Query
+queryOf NoPath q = noPath
+queryOf Path q = path q
 
 -- ---- the walk
 
@@ -89,7 +97,7 @@ isFlag P = false
 isFlag I = true
 
 -- the Rust's `is_partial_flag_denied`: some D or I path has prefix q; with no path, mark 1 or 4
-unfoldable pub isPartial : Table → Descriptor → Bool
+unfoldable pub isPartial : Table → Query → Bool
 isPartial t noPath = has (t .marks) hasFlagDenied || has (t .marks) hasFlagIgnored
 isPartial t (path q) = any (λ e. isFlag (e .kind) && isPrefix q (e .path)) (t .entries)
 
@@ -115,12 +123,12 @@ isDeniedMode TreatAsPartialGranted = false
 isDeniedMode TreatAsGranted = false
 
 -- with no path, switch 8 or mark 2 also gives Denied beside switch 2
-unfoldable pub isDenied : Table → Descriptor → Bool
+unfoldable pub isDenied : Table → Query → Bool
 isDenied t noPath = has (t .switches) flagDenied || (has (t .switches) promptDenied || has (t .marks) hasPromptDenied)
 isDenied t (path q) = has (t .switches) flagDenied
 
 -- without a match: switch 4 Ignored; mode denied and partial, DeniedPartial; switch 2 Denied; switch 1 allowed; else Prompt
-unfoldable pub withoutMatch : Table → AllowPartial → Descriptor → PermissionState
+unfoldable pub withoutMatch : Table → AllowPartial → Query → PermissionState
 withoutMatch t mode d =
     cond (has (t .switches) flagIgnored) Ignored
     (cond (isDeniedMode mode && isPartial t d) DeniedPartial
@@ -128,11 +136,20 @@ withoutMatch t mode d =
     (cond (has (t .switches) granted) (allowed (isPartial t d) mode)
     Prompt)))
 
-unfoldable pub byMatch : Table → AllowPartial → Descriptor → Option Entry → PermissionState
+unfoldable pub byMatch : Table → AllowPartial → Query → Option Entry → PermissionState
 byMatch t mode d none = withoutMatch t mode d
 byMatch t mode d (some e) = decidedBy (e .kind) (allowed (isPartial t d) mode)
 
 -- the Rust's `query_desc`; with no path the walk is skipped
-unfoldable pub queryDesc : Table → AllowPartial → Descriptor → PermissionState
+unfoldable pub queryDesc : Table → AllowPartial → Query → PermissionState
 queryDesc t mode noPath = withoutMatch t mode noPath
 queryDesc t mode (path q) = byMatch t mode (path q) (firstMatch q (t .entries))
+
+-- the Rust's `is_allow_all`: switch 1 alone of 1, 2, 4, 8 is set and no mark is
+unfoldable pub isAllowAll : Table → Bool
+isAllowAll t =
+    has (t .switches) granted
+    && not (has (t .switches) flagDenied)
+    && not (has (t .switches) flagIgnored)
+    && not (has (t .switches) promptDenied)
+    && eqb (t .marks) 0

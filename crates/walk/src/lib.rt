@@ -16,3 +16,9 @@ pub enum AllowPartial {
     TreatAsPartialGranted,
     TreatAsGranted,
 }
+
+// What is asked about: no path, or the path whose bytes are lent beside it.
+pub enum Descriptor {
+    NoPath,
+    Path,
+}

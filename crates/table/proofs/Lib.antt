@@ -10,3 +10,4 @@ pub mod Readback
 pub mod Puts
 pub mod Inserts
 pub mod FoundLaws
+pub mod CallLaws

@@ -1,9 +1,11 @@
 -- The memory test gives what `holds` says.
-use Prim.Native.Nat.{ℕ, zero, suc, _+_, _-_, _*_, _≤_, _<_}
+use Prim.Native.Nat.{ℕ, zero, suc, _+_, _-_, _*_, _/_, _%_, _≤_, _<_}
 use mathlib.Core.Path.{_≡_, refl, sym, ap, _∙_, subst}
 use mathlib.Core.List.{List, [], _∷_}
-use mathlib.Core.Bool.{Bool, true, false, _&&_, _||_, cond, false≢true, true≢false}
+use mathlib.Core.Bool.{Bool, true, false, _&&_, _||_, cond, false≢true}
 use native.Mathlib.Omega.{arith}
+use native.Mathlib.Decide.{ℕ-discrete}
+use native.Mathlib.Nat.{not-suc-le-zero}
 use lib.ListN.{length, getD, take, drop, length-drop}
 use lib.Seq.{length-take-le}
 use lib.Dec.{leb, eqb}
@@ -16,8 +18,8 @@ use Rattle.table.specs.Entries.{Entry, kindNumber}
 use Rattle.table.specs.Tables.{Table, has, setBit, marked, maxEntries, maxPathBytes, maxSwitches, pathBytes, isEntry, every, any, present, marksOf, isTable}
 use Rattle.table.specs.Memory.{tableBytes, wordAt, lenAt, nextAt, kindFrom, entryAt, entriesAt, tableOf, areWithin, holds}
 use Rattle.table.specs.Scanning.{entryFits, scanned}
-use Rattle.table.proofs.TableLaws.{marksBy, mark-set, parts-valid}
-use Rattle.table.proofs.Within.{Held, held, length-entries, length-path}
+use Rattle.table.proofs.TableLaws.{marksBy, mark-set, parts-valid, bit-kept, bit-added}
+use Rattle.table.proofs.Within.{Held, held, length-entries, length-path, pred-suc}
 
 -- ---- marks met one after the other
 
@@ -179,3 +181,85 @@ holds-many m h = false-by (λ e. omega (arith, held m e .few))
 
 pub holds-high : (m : List ℕ) → maxSwitches < getD m 2 0 → holds m ≡ false
 holds-high m h = false-by (λ e. omega (arith, held m e .switches))
+
+-- ---- one entry that is tested
+
+module _ (m : List ℕ) (room at : ℕ) where
+  pub unfit-kind : 3 < getD m at 0 → entryFits m room at ≡ false
+  unfit-kind h = false-by (λ e. omega (arith, fits-parts m room at e .kind))
+
+  pub unfit-long : maxPath < lenAt m at → entryFits m room at ≡ false
+  unfit-long h = false-by (λ e. omega (arith, fits-parts m room at e .short))
+
+  pub unfit-room : room < lenAt m at → entryFits m room at ≡ false
+  unfit-room h = false-by (λ e. omega (arith, fits-parts m room at e .roomy))
+
+  -- all but the path is in order
+  pub fit-path : (n : ℕ) → n ≡ lenAt m at → getD m at 0 ≤ 3 → n ≤ maxPath → n ≤ room
+      → isResolved (take n (drop (at + 3) m)) ≡ entryFits m room at
+  unfolding entryFits
+  fit-path n e kind short roomy =
+      rw (le-leb _ _ kind, le-leb (lenAt m at) maxPath (omega arith), le-leb (lenAt m at) room (omega arith))
+      (ap (λ (k : ℕ). isResolved (take k (drop (at + 3) m))) e)
+
+-- ---- one turn of the test
+
+setBit-small : (n bit most : ℕ) → n ≤ most → ((n / bit % 2 ≡ 1 → ⊥) → n + bit ≤ most) → setBit n bit ≤ most
+setBit-small n bit most h f = go (ℕ-discrete (n / bit % 2) 1)
+  where
+    go : Dec (n / bit % 2 ≡ 1) → setBit n bit ≤ most
+    go (yes e) = rw (bit-kept n bit e) h
+    go (no e) = rw (bit-added n bit e) (f e)
+
+pub marked-small : (k : Kind) (n : ℕ) → n ≤ 7 → marked k n ≤ 7
+unfolding marked
+marked-small G n h = h
+marked-small D n h = setBit-small n 1 7 h (λ e. omega arith)
+marked-small P n h = setBit-small n 2 7 h (λ e. omega arith)
+marked-small I n h = setBit-small n 4 7 h (λ e. omega arith)
+
+pub mark-of : {k j : Kind} {r : ℕ} (n : ℕ) → r ≡ marked k n → k ≡ j → r ≡ marked j n
+mark-of {k} {j} {r} n e f = e ∙ ap (λ (x : Kind). marked x n) f
+
+-- the test of `all` entries has `left` to go
+pub record Scans (m : List ℕ) (all left room seen at : ℕ) : Type 0 where
+  pub inside : at + 3 * left + room ≤ length m
+  pub small : seen ≤ 7
+  pub goes : scanned m all maxPathBytes 0 4 ≡ scanned m left room seen at
+
+pub scans-start : (m : List ℕ) (n : ℕ) → tableBytes ≤ length m → n ≤ maxEntries → Scans m n n maxPathBytes 0 4
+scans-start m n long few = record { inside = omega arith; small = omega arith; goes = refl }
+
+module _ {m : List ℕ} {all left room seen at : ℕ} (h : 0 < left) (S : Scans m all left room seen at) where
+  step : scanned m left room seen at
+      ≡ entryFits m room at && scanned m (left - 1) (room - lenAt m at) (marked (entryAt m at .kind) seen) (nextAt m at)
+  unfolding scanned
+  step = ap (λ (k : ℕ). scanned m k room seen at) (pred-suc left h)
+
+  pub scans-bad : entryFits m room at ≡ false → false ≡ scanned m all maxPathBytes 0 4
+  scans-bad e = sym (S .goes ∙ step ∙ rw e)
+
+  pub scans-next : (n seen′ : ℕ) → n ≡ lenAt m at → seen′ ≡ marked (entryAt m at .kind) seen → entryFits m room at ≡ true
+      → Scans m all (left - 1) (room - n) seen′ (at + 3 + n)
+  scans-next n seen′ size mark e =
+      let fits = fits-parts m room at e .roomy in
+      record {
+        inside = omega (arith, S .inside);
+        small = rw mark (marked-small (entryAt m at .kind) seen (S .small));
+        goes = rw (size, mark) (S .goes ∙ step ∙ rw e);
+      }
+
+scanned-none : (m : List ℕ) (n room seen at : ℕ) → n ≤ 0 → scanned m n room seen at ≡ eqb seen (getD m 3 0)
+unfolding scanned
+scanned-none m zero room seen at h = refl
+scanned-none m (suc n) room seen at h = absurd (not-suc-le-zero h)
+
+pub scans-end : {m : List ℕ} {all left room seen at : ℕ} → left ≤ 0 → Scans m all left room seen at
+    → eqb seen (getD m 3 0) ≡ scanned m all maxPathBytes 0 4
+scans-end {m} {all} {left} {room} {seen} {at} h S = sym (S .goes ∙ scanned-none m left room seen at h)
+
+-- the test's answer, with the count that it read
+pub holds-by : (m : List ℕ) (n : ℕ) (r : Bool) → tableBytes ≤ length m → n ≡ wordAt m 0 → n ≤ maxEntries → getD m 2 0 ≤ maxSwitches
+    → r ≡ scanned m n maxPathBytes 0 4 → r ≡ holds m
+holds-by m n r long count few low e =
+    e ∙ ap (λ (k : ℕ). scanned m k maxPathBytes 0 4) count ∙ sym (holds-scanned m long (omega arith) low)

@@ -47,6 +47,14 @@ number-kind (suc (suc zero)) h = refl
 number-kind (suc (suc (suc zero))) h = refl
 number-kind (suc (suc (suc (suc n)))) h = omega arith
 
+-- a kind byte that is none of the first three
+pub kind-rest : (n : ℕ) → (n ≡ 0 → ⊥) → (n ≡ 1 → ⊥) → (n ≡ 2 → ⊥) → I ≡ kindFrom n
+unfolding kindFrom
+kind-rest zero a b c = absurd (a refl)
+kind-rest (suc zero) a b c = absurd (b refl)
+kind-rest (suc (suc zero)) a b c = absurd (c refl)
+kind-rest (suc (suc (suc n))) a b c = refl
+
 pub number-small : (k : Kind) → kindNumber k ≤ 3
 number-small G = omega arith
 number-small D = omega arith

@@ -4,3 +4,4 @@ pub mod Tables
 pub mod Acts
 pub mod Memory
 pub mod Scanning
+pub mod Calls

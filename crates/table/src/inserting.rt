@@ -14,7 +14,7 @@ ghost use Rattle.table.specs.Acts.{insertedBy};
 ghost use Rattle.table.specs.Memory.{wordAt, tableOf, holds, put};
 
 // The marks when an entry of a kind is inserted; each mark is set at most once.
-fn marked(kind: Kind, marks: u8) -> u8
+pub fn marked(kind: Kind, marks: u8) -> u8
     requires { ⌜ marks ≤ 7 ⌝ }
     ensures { λ r. ⌜ r ≡ marked kind marks ⌝ }
 {

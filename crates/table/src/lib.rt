@@ -1,5 +1,9 @@
 // The table: entries in sequence, switches and marks, in lent memory, and the acts on it. The definitions are in specs/.
+use refusals::Refusal;
+
+pub mod acting;
 pub mod comparing;
+pub mod holding;
 pub mod inserting;
 pub mod reading;
 pub mod writing;
@@ -16,4 +20,10 @@ pub enum Kind {
 pub enum Place {
     Found,
     At(usize),
+}
+
+// What a call on a table answers.
+pub enum Outcome {
+    Done,
+    Refused(Refusal),
 }

@@ -1,9 +1,10 @@
 // Reading a table in lent memory: numbers, and where an entry begins.
+use crate::Kind;
 ghost use mathlib.Core.Path.{_≡_};
 ghost use mathlib.Core.Bool.{true};
 ghost use Prim.Native.Nat.{_+_, _<_, _≤_};
 ghost use lib.ListN.{length};
-ghost use Rattle.table.specs.Memory.{wordAt, offsetAt, holds};
+ghost use Rattle.table.specs.Memory.{wordAt, kindFrom, offsetAt, holds};
 
 // A byte as a size.
 pub fn wide(x: u8) -> usize
@@ -33,4 +34,20 @@ pub fn entry_offset(mem: &[u8], place: usize) -> usize
         left -= 1;
     }
     at
+}
+
+// The kind of a kind byte.
+pub fn kind_from(byte: u8) -> Kind
+    ensures { λ r. ⌜ r ≡ kindFrom byte ⌝ }
+{
+    if byte == 0 {
+        return Kind::G;
+    }
+    if byte == 1 {
+        return Kind::D;
+    }
+    if byte == 2 {
+        return Kind::P;
+    }
+    Kind::I
 }

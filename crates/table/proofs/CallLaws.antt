@@ -1,12 +1,12 @@
 -- Laws of what a call does: a cause that holds, and a call that is done.
 use Prim.Native.Nat.{ℕ, _≤_, _<_}
-use mathlib.Core.Path.{_≡_, refl, sym, ap, _∙_}
+use mathlib.Core.Path.{_≡_, refl, sym, ap, subst, _∙_}
 use mathlib.Core.List.{List, [], _∷_, _++_}
 use mathlib.Core.Option.{Option, none, some}
 use mathlib.Core.Bool.{Bool, true, false, not}
 use native.Mathlib.Omega.{arith}
 use lib.ListN.{length, set, drop}
-use borrow.Author.Tests.{lt-ltb, le-ltb, le-leb}
+use borrow.Author.Tests.{lt-ltb, le-ltb, le-leb, not-true, not-false}
 use Rattle.refusals.specs.declared.Refusal.{Refusal}
 use Rattle.refusals.specs.declared.Refusal.the-variants.{NoTable, Unknown, TableFull}
 use Rattle.refusals.specs.Refusals.{Condition, when, firstCause}
@@ -19,7 +19,8 @@ use Rattle.paths.proofs.ResolvingLaws.{resolve-resolved}
 use Rattle.paths.proofs.Answering.{Given}
 use Rattle.table.specs.declared.Kind.{Kind}
 use Rattle.table.specs.Entries.{Entry}
-use Rattle.table.specs.Acts.{overflows}
+use Rattle.table.specs.Acts.{insert, revoke, applyAct, overflows}
+use Rattle.table.specs.Inserting.{Inserts}
 use Rattle.table.specs.Tables.{Table, fresh, maxSwitches, isEntry}
 use Rattle.table.specs.Memory.{tableBytes, kindFrom, tableOf, encode, encodeAll, overwrite, put, holds}
 use Rattle.table.specs.Calls.{
@@ -39,6 +40,10 @@ module _ (conditions : List Condition) (t : Table) (m : List ℕ) where
   pub does-refuse : {cause : Refusal} → firstCause conditions ≡ some cause → Does conditions t m m (Refused cause)
   unfolding outcomeOf memoryAfter
   does-refuse e = record { answer = rw e; memory = rw e }
+
+  pub does-stop : {cause : Refusal} (after : List ℕ) → firstCause conditions ≡ some cause → after ≡ m → Does conditions t m after (Refused cause)
+  unfolding outcomeOf memoryAfter
+  does-stop after e q = record { answer = rw e; memory = rw e q }
 
   pub does-act : (after : List ℕ) → firstCause conditions ≡ none → after ≡ put t m → Does conditions t m after Done
   unfolding outcomeOf memoryAfter
@@ -145,3 +150,29 @@ pub given-same : (kind : ℕ) (k : Kind) (p cwd part : List ℕ) → k ≡ kindF
     → _≡_ {A = Entry} (record { kind = k; path = part }) (givenEntry kind p cwd)
 unfolding givenEntry
 given-same kind k p cwd part e f = λ i. record { kind = e i; path = f i }
+
+-- ---- an insert, from what its steps found
+
+module _ (kind n : ℕ) (k : Kind) (p cwd part : List ℕ) (g : Given p cwd n) (e : k ≡ kindFrom kind) (f : part ≡ resolve p cwd) where
+  pub entry-handed : isEntry (record { kind = k; path = part }) ≡ true
+  entry-handed = subst (λ (x : Entry). isEntry x ≡ true) (sym (given-same kind k p cwd part e f)) (given-entry kind n p cwd g)
+
+  module _ (m m′ : List ℕ) (r : Bool) (h : holds m ≡ true) (low : kind ≤ 3) (s : Inserts m m′ (record { kind = k; path = part }) r) where
+    inserts : Inserts m m′ (givenEntry kind p cwd) r
+    inserts = subst (λ (x : Entry). Inserts m m′ x r) (given-same kind k p cwd part e f) s
+
+    pub insert-done : r ≡ true
+        → Does (insertConditions m kind p cwd) (applyAct (tableOf m) (insert (givenEntry kind p cwd))) m m′ Done
+    insert-done t =
+        let o = not-true (overflows (tableOf m) (givenEntry kind p cwd)) (sym (inserts .answer) ∙ t) in
+        does-act _ _ m m′ (insert-free m kind p cwd h low (g .free) o) (inserts .bytes ∙ rw o)
+
+    pub insert-undone : r ≡ false
+        → Does (insertConditions m kind p cwd) (applyAct (tableOf m) (insert (givenEntry kind p cwd))) m m′ (Refused TableFull)
+    insert-undone t =
+        let o = not-false (overflows (tableOf m) (givenEntry kind p cwd)) (sym (inserts .answer) ∙ t) in
+        does-stop _ _ m m′ (insert-full m kind p cwd h low (g .free) o) (inserts .bytes ∙ rw o)
+
+-- ---- a revoke, of the path that was resolved
+pub revoked-same : (m m′ part q : List ℕ) → part ≡ q → m′ ≡ put (applyAct (tableOf m) (revoke part)) m → m′ ≡ put (applyAct (tableOf m) (revoke q)) m
+revoked-same m m′ part q e f = f ∙ ap (λ (x : List ℕ). put (applyAct (tableOf m) (revoke x)) m) e

@@ -1,14 +1,16 @@
 -- Laws of the comparison of two entries.
 use Prim.Native.Nat.{ℕ, zero, suc, _^_, _<_}
 use mathlib.Core.Path.{_≡_, refl, sym, ap, ap₂, _∙_}
-use mathlib.Core.List.{List}
+use mathlib.Core.List.{List, [], _∷_}
 use mathlib.Core.Bool.{Bool, true, false, _&&_, not, cond}
 use lib.IntN.{ℤ, pos, negsuc, negℤ, _-ℤ_}
+use lib.Dec.{eqb, ltb}
 use mir.Syntax.{w8}
 use lib.Signed.{mag}
 use mir.Val.{SFits, toZ, ofZ, hbits}
 use mir.Facts.{sfits-lit, toZ-ofZ}
-use Rattle.paths.specs.Relations.{isPrefix, pathOrder, numberOrder, less, greater}
+use Rattle.paths.specs.Components.{components}
+use Rattle.paths.specs.Relations.{isPrefix, pathOrder, numberOrder, orElse, inTurn, less, equal, greater}
 use Rattle.paths.proofs.RelationLaws.{numberOrder-turned, pathOrder-turned, Said}
 use Rattle.table.specs.Entries.{Entry, isGranted, kindPrecedence, samePath, strictlyExtends, compareAlike, grantedOrder, compare}
 
@@ -80,6 +82,63 @@ less-or-greater false = plus
 pub granted-sign : (p q : List ℕ) → Sign (grantedOrder p q)
 unfolding grantedOrder
 granted-sign p q = less-or-greater (strictlyExtends p q)
+
+-- the comparison is −1, 0 or 1
+number-by : (below same : Bool) → Sign (cond below less (cond same equal greater))
+number-by true same = minus
+number-by false true = none
+number-by false false = plus
+
+number-sign : (a b : ℕ) → Sign (numberOrder a b)
+unfolding numberOrder
+number-sign a b = number-by (ltb a b) (eqb a b)
+
+or-sign : {x y : ℤ} → Sign x → Sign y → Sign (orElse x y)
+unfolding orElse
+or-sign minus s = minus
+or-sign none s = s
+or-sign plus s = plus
+
+turn-sign : {A : Type 0} (order : A → A → ℤ) → ((x y : A) → Sign (order x y)) → (xs ys : List A) → Sign (inTurn order xs ys)
+unfolding inTurn
+turn-sign order h [] [] = none
+turn-sign order h [] (y ∷ ys) = minus
+turn-sign order h (x ∷ xs) [] = plus
+turn-sign order h (x ∷ xs) (y ∷ ys) = or-sign (h x y) (turn-sign order h xs ys)
+
+path-sign : (p q : List ℕ) → Sign (pathOrder p q)
+unfolding pathOrder
+path-sign p q = turn-sign (inTurn numberOrder) (turn-sign numberOrder number-sign) (components p) (components q)
+
+alike-sign-by : (same deeper higher : Bool) {n o : ℤ} → Sign n → Sign o → Sign (cond same n (cond deeper less (cond higher greater o)))
+alike-sign-by true deeper higher s t = s
+alike-sign-by false true higher s t = minus
+alike-sign-by false false true s t = plus
+alike-sign-by false false false s t = t
+
+alike-sign : (old new : Entry) → Sign (compareAlike old new)
+unfolding compareAlike
+alike-sign old new =
+    alike-sign-by (samePath (old .path) (new .path)) (strictlyExtends (old .path) (new .path)) (strictlyExtends (new .path) (old .path))
+    (number-sign (kindPrecedence (old .kind)) (kindPrecedence (new .kind))) (path-sign (old .path) (new .path))
+
+negative-sign : {x : ℤ} → Sign x → Sign (negℤ x)
+negative-sign minus = plus
+negative-sign none = none
+negative-sign plus = minus
+
+sign-by : (old new : Bool) {alike grant grant′ : ℤ} → Sign alike → Sign grant → Sign grant′
+    → Sign (cond old (cond new alike grant) (cond new (negℤ grant′) alike))
+sign-by true true s t u = s
+sign-by true false s t u = t
+sign-by false true s t u = negative-sign u
+sign-by false false s t u = s
+
+pub compare-sign : (old new : Entry) → Sign (compare old new)
+unfolding compare
+compare-sign old new =
+    sign-by (isGranted (old .kind)) (isGranted (new .kind)) (alike-sign old new) (granted-sign (old .path) (new .path))
+    (granted-sign (new .path) (old .path))
 
 pub negative-fits : (x : ℤ) → Sign x → SFits w8 (pos 0 -ℤ toZ w8 (ofZ w8 x))
 negative-fits x minus = sfits-lit tt

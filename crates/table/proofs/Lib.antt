@@ -10,4 +10,6 @@ pub mod Readback
 pub mod Puts
 pub mod Inserts
 pub mod FoundLaws
+pub mod ProbeLaws
+pub mod RevokeLaws
 pub mod CallLaws

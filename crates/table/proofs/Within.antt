@@ -47,19 +47,18 @@ number-kind (suc (suc zero)) h = refl
 number-kind (suc (suc (suc zero))) h = refl
 number-kind (suc (suc (suc (suc n)))) h = omega arith
 
--- a kind byte that is none of the first three
-pub kind-rest : (n : ℕ) → (n ≡ 0 → ⊥) → (n ≡ 1 → ⊥) → (n ≡ 2 → ⊥) → I ≡ kindFrom n
-unfolding kindFrom
-kind-rest zero a b c = absurd (a refl)
-kind-rest (suc zero) a b c = absurd (b refl)
-kind-rest (suc (suc zero)) a b c = absurd (c refl)
-kind-rest (suc (suc (suc n))) a b c = refl
-
 pub number-small : (k : Kind) → kindNumber k ≤ 3
 number-small G = omega arith
 number-small D = omega arith
 number-small P = omega arith
 number-small I = omega arith
+
+pub kind-above : (n : ℕ) → 3 ≤ n → kindFrom n ≡ I
+unfolding kindFrom
+kind-above zero h = absurd (omega arith)
+kind-above (suc zero) h = absurd (omega arith)
+kind-above (suc (suc zero)) h = absurd (omega arith)
+kind-above (suc (suc (suc n))) h = refl
 
 -- ---- one step, where a loop counts down, and none left, where it ends
 
@@ -89,6 +88,30 @@ pub length-entries : (m : List ℕ) (n at : ℕ) → length (entriesAt m n at) �
 unfolding entriesAt
 length-entries m zero at = refl
 length-entries m (suc n) at = ap suc (length-entries m n (nextAt m at))
+
+-- ---- entries that lie within the memory
+
+first-within : (m : List ℕ) (n at : ℕ) → areWithin m (suc n) at ≡ true → leb (getD m at 0) 3 && leb (nextAt m at) (length m) ≡ true
+unfolding areWithin
+first-within m n at e = and-left (leb (getD m at 0) 3 && leb (nextAt m at) (length m)) _ e
+
+first-inside : (m : List ℕ) (n at : ℕ) → areWithin m (suc n) at ≡ true → nextAt m at ≤ length m
+first-inside m n at e = leb-true _ _ (and-right (leb (getD m at 0) 3) _ (first-within m n at e))
+
+next-within : (m : List ℕ) (n at : ℕ) → areWithin m (suc n) at ≡ true → areWithin m n (nextAt m at) ≡ true
+unfolding areWithin
+next-within m n at e = and-right (leb (getD m at 0) 3 && leb (nextAt m at) (length m)) _ e
+
+-- where a loop counts down
+module _ (m : List ℕ) (n : ℕ) (h : 0 < n) (at : ℕ) (e : areWithin m n at ≡ true) where
+  within-again : areWithin m (suc (n - 1)) at ≡ true
+  within-again = subst (λ (k : ℕ). areWithin m k at ≡ true) (pred-suc n h) e
+
+  pub within-inside : nextAt m at ≤ length m
+  within-inside = first-inside m (n - 1) at within-again
+
+  pub within-next : areWithin m (n - 1) (nextAt m at) ≡ true
+  within-next = next-within m (n - 1) at within-again
 
 -- ---- memory that holds a table
 
@@ -147,18 +170,14 @@ length-path m at h = length-take-le (lenAt m at) (drop (at + 3) m) (simp length-
 
 -- where a definition recurses
 module _ {m : List ℕ} {n at : ℕ} (r : Rest m (suc n) at) where
-  first-within : leb (getD m at 0) 3 && leb (nextAt m at) (length m) ≡ true
-  unfolding areWithin
-  first-within = and-left (leb (getD m at 0) 3 && leb (nextAt m at) (length m)) _ (r .within)
-
   pub here-suc : Here m at
   unfolding isEntry every entriesAt
   here-suc =
-      let inside = leb-true _ _ (and-right (leb (getD m at 0) 3) _ first-within) in
+      let inside = first-inside m n at (r .within) in
       let good = and-left (isEntry (entryAt m at)) _ (r .each) in
       let short : length (entryAt m at .path) ≤ maxPath = leb-true _ _ (and-left (leb (length (entryAt m at .path)) maxPath) _ good) in
       record {
-        kind = leb-true _ _ (and-left (leb (getD m at 0) 3) _ first-within);
+        kind = leb-true _ _ (and-left (leb (getD m at 0) 3) _ (first-within m n at (r .within)));
         inside = inside;
         short = omega (arith, length-path m at inside);
         resolved = and-right (leb (length (entryAt m at .path)) maxPath) _ good;
@@ -166,9 +185,9 @@ module _ {m : List ℕ} {n at : ℕ} (r : Rest m (suc n) at) where
       }
 
   pub rest-suc : Rest m n (nextAt m at)
-  unfolding areWithin every entriesAt
+  unfolding every entriesAt
   rest-suc = record {
-    within = and-right (leb (getD m at 0) 3 && leb (nextAt m at) (length m)) _ (r .within);
+    within = next-within m n at (r .within);
     each = and-right (isEntry (entryAt m at)) _ (r .each);
   }
 

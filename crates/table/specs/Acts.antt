@@ -2,7 +2,7 @@
 -- "A call comes in" (revoke) and "Placing an entry" (insert).
 use Prim.Native.Nat.{ℕ, _+_}
 use mathlib.Core.List.{List, [], _∷_}
-use mathlib.Core.Bool.{Bool, true, false, _&&_, not}
+use mathlib.Core.Bool.{Bool, true, false, _&&_, _||_, not}
 use lib.ListN.{length}
 use lib.Dec.{leb, ltb}
 use Rattle.table.specs.Entries.{Entry, isGranted}
@@ -62,6 +62,14 @@ without dropped (e ∷ es) = keptUnless (dropped e) e (without dropped es)
 -- a G whose path is a prefix of q
 unfoldable pub revokedBy : List ℕ → Entry → Bool
 revokedBy q e = isGranted (e .kind) && isPrefix (e .path) q
+
+-- a G, where all of them go or its path is a prefix of q
+unfoldable pub droppedBy : Bool → List ℕ → Entry → Bool
+droppedBy all q e = isGranted (e .kind) && (all || isPrefix (e .path) q)
+
+-- the table without the entries that are dropped
+abbrev pub dropping : (Entry → Bool) → Table → Table
+dropping dropped t = record { entries = without dropped (t .entries); switches = t .switches; marks = t .marks }
 
 -- ---- what an act does
 

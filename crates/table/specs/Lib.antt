@@ -3,5 +3,6 @@ pub mod Placing
 pub mod Tables
 pub mod Acts
 pub mod Memory
-pub mod Scanning
 pub mod Calls
+pub mod Scanning
+pub mod Inserting

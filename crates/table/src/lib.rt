@@ -5,7 +5,9 @@ pub mod acting;
 pub mod comparing;
 pub mod holding;
 pub mod inserting;
+pub mod placing;
 pub mod reading;
+pub mod revoking;
 pub mod writing;
 
 // The kinds of an entry, by document 01's letters. The Rust's names are Granted, FlagDenied, PromptDenied and FlagIgnored.

@@ -15,8 +15,12 @@ use Rattle.walk.specs.declared.PermissionState.the-variants.{
 }
 use Rattle.walk.specs.declared.AllowPartial.{AllowPartial}
 use Rattle.walk.specs.declared.AllowPartial.the-variants.{TreatAsDenied, TreatAsPartialGranted, TreatAsGranted}
+use Rattle.walk.specs.declared.ModeRead.{ModeRead}
+use Rattle.walk.specs.declared.ModeRead.the-variants.{Mode, Unknown}
 use Rattle.walk.specs.declared.Descriptor.{Descriptor}
 use Rattle.walk.specs.declared.Descriptor.the-variants.{NoPath, Path}
+use Rattle.walk.specs.declared.ExactMatch.{ExactMatch}
+use Rattle.walk.specs.declared.ExactMatch.the-variants.{Undecided, State}
 use Rattle.table.specs.declared.Kind.{Kind}
 use Rattle.table.specs.declared.Kind.the-variants.{G, D, P, I}
 use Rattle.table.specs.Entries.{Entry}
@@ -57,6 +61,14 @@ modeOf zero = some TreatAsDenied
 modeOf (suc zero) = some TreatAsPartialGranted
 modeOf (suc (suc zero)) = some TreatAsGranted
 modeOf (suc (suc (suc n))) = none
+
+-- the same as an answer of the code
+unfoldable pub readAs : Option AllowPartial → ModeRead
+readAs none = Unknown
+readAs (some mode) = Mode mode
+
+unfoldable pub modeRead : ℕ → ModeRead
+modeRead n = readAs (modeOf n)
 
 -- ---- what is asked about
 
@@ -139,6 +151,14 @@ withoutMatch t mode d =
 unfoldable pub byMatch : Table → AllowPartial → Query → Option Entry → PermissionState
 byMatch t mode d none = withoutMatch t mode d
 byMatch t mode d (some e) = decidedBy (e .kind) (allowed (isPartial t d) mode)
+
+-- the Rust's `query_allowed_desc_for_exact_match`, for a path: what the first match decides, if there is one
+unfoldable pub exactBy : Table → AllowPartial → List ℕ → Option Entry → ExactMatch
+exactBy t mode q none = Undecided
+exactBy t mode q (some e) = State (decidedBy (e .kind) (allowed (isPartial t (path q)) mode))
+
+unfoldable pub exactMatch : Table → AllowPartial → List ℕ → ExactMatch
+exactMatch t mode q = exactBy t mode q (firstMatch q (t .entries))
 
 -- the Rust's `query_desc`; with no path the walk is skipped
 unfoldable pub queryDesc : Table → AllowPartial → Query → PermissionState

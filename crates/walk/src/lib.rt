@@ -1,4 +1,8 @@
 // What a query answers. The definitions are in specs/.
+use refusals::Refusal;
+
+pub mod querying;
+pub mod walking;
 
 // The answer of a query, with the Rust's names in the Rust's order.
 pub enum PermissionState {
@@ -17,8 +21,26 @@ pub enum AllowPartial {
     TreatAsGranted,
 }
 
+// The mode that a number names, if it names one.
+pub enum ModeRead {
+    Mode(AllowPartial),
+    Unknown,
+}
+
 // What is asked about: no path, or the path whose bytes are lent beside it.
 pub enum Descriptor {
     NoPath,
     Path,
+}
+
+// What the entries alone say of a path: nothing, as none matches, or the state that the first match decides.
+pub enum ExactMatch {
+    Undecided,
+    State(PermissionState),
+}
+
+// What the call query answers: a state, or why it is refused.
+pub enum Answer {
+    State(PermissionState),
+    Refused(Refusal),
 }

@@ -1,3 +1,4 @@
+-- `compare_at` meets its contract: the kind and the part of memory that it hands to `compare` are the entry at `at`.
 use borrow.Author.Needs.{needs}
 use mathlib.Core.Path.{_∙_}
 use Rattle.table.proofs.ComparisonLaws.{read-back}

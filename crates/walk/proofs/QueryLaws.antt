@@ -98,3 +98,8 @@ module _ (m : List ℕ) (mode : ℕ) (d : Descriptor) (p cwd : List ℕ) where
         → state ≡ queryDesc (tableOf m) known (queryOf d part) → State state ≡ queryAnswer m mode d p cwd
     query-path state n part e g f s =
         query-answered state (path-causes d p cwd e ∙ g .free) (s ∙ ap (λ (x : List ℕ). queryDesc (tableOf m) known (queryOf d x)) f)
+
+-- with no path, what is lent for one does not matter
+pub query-any-path : (m : List ℕ) (mode : ℕ) (p cwd p′ cwd′ : List ℕ) → queryAnswer m mode NoPath p cwd ≡ queryAnswer m mode NoPath p′ cwd′
+unfolding queryAnswer queryConditions givenConditions queryOf
+query-any-path m mode p cwd p′ cwd′ = refl

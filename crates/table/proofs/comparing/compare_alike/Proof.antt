@@ -6,9 +6,6 @@ use Rattle.table.proofs.ComparisonLaws.{alike-said, read-back}
 use borrow.Author.Needs.{needs}
 use Rattle.table.proofs.comparing.compare_alike.Statement.{statement}
 use Rattle.table.proofs.comparing.compare_alike.Tie as tie
-use Rattle.paths.proofs.relating.relate.Reads as relate-reads
-use Rattle.table.proofs.comparing.kind_precedence.Reads as kind-precedence-reads
-use Rattle.table.proofs.comparing.number_order.Reads as number-order-reads
 
 relate-requires : tie.Need-relate-requires
 relate-requires c κs = search needs

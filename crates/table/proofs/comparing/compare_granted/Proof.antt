@@ -5,7 +5,6 @@ use Rattle.table.proofs.ComparisonLaws.{granted-said}
 use borrow.Author.Needs.{needs}
 use Rattle.table.proofs.comparing.compare_granted.Statement.{statement}
 use Rattle.table.proofs.comparing.compare_granted.Tie as tie
-use Rattle.paths.proofs.relating.relate.Reads as relate-reads
 
 relate-requires : tie.Need-relate-requires
 relate-requires c κs = search needs

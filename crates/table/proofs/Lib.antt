@@ -13,3 +13,4 @@ pub mod FoundLaws
 pub mod ProbeLaws
 pub mod RevokeLaws
 pub mod CallLaws
+pub mod ListingLaws

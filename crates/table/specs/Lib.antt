@@ -6,3 +6,4 @@ pub mod Memory
 pub mod Calls
 pub mod Scanning
 pub mod Inserting
+pub mod Listing

@@ -5,6 +5,7 @@ pub mod acting;
 pub mod comparing;
 pub mod holding;
 pub mod inserting;
+pub mod listing;
 pub mod placing;
 pub mod reading;
 pub mod revoking;
@@ -28,4 +29,10 @@ pub enum Place {
 pub enum Outcome {
     Done,
     Refused(Refusal),
+}
+
+// What stands at an offset of memory: an entry, with its kind and where its path begins and ends, or no whole entry.
+pub enum Part {
+    Entry(Kind, usize, usize),
+    Nothing,
 }

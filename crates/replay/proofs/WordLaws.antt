@@ -1,0 +1,25 @@
+-- What the contracts of the words say once a `match` has told which answer came.
+use Prim.Native.Nat.{ℕ, _<_, _≤_}
+use mathlib.Core.Path.{_≡_, subst}
+use Rattle.walk.specs.declared.Descriptor.{Descriptor}
+use Rattle.replay.specs.declared.ByteRead.{ByteRead}
+use Rattle.replay.specs.declared.ByteRead.the-variants.{Byte}
+use Rattle.replay.specs.declared.BytesRead.{BytesRead}
+use Rattle.replay.specs.declared.BytesRead.the-variants.{Bytes}
+use Rattle.replay.specs.declared.PathRead.{PathRead}
+use Rattle.replay.specs.declared.PathRead.the-variants.{Path}
+use Rattle.replay.specs.declared.GivenRead.{GivenRead}
+use Rattle.replay.specs.declared.GivenRead.the-variants.{Given}
+use Rattle.replay.specs.Words.{ByteWithin, BytesWithin, PathWithin, GivenWithin}
+
+pub byte-within : (r : ByteRead) (at end : ℕ) {b next : ℕ} → r ≡ Byte b next → ByteWithin r at end → (at < next) × (next ≤ end)
+byte-within r at end e h = subst (λ (x : ByteRead). ByteWithin x at end) e h
+
+pub bytes-within : (r : BytesRead) (n : ℕ) {start end next : ℕ} → r ≡ Bytes start end next → BytesWithin r n → (start ≤ end) × (end ≤ n)
+bytes-within r n e h = subst (λ (x : BytesRead). BytesWithin x n) e h
+
+pub path-within : (r : PathRead) (n : ℕ) {d : Descriptor} {start end next : ℕ} → r ≡ Path d start end next → PathWithin r n → (start ≤ end) × (end ≤ n)
+path-within r n e h = subst (λ (x : PathRead). PathWithin x n) e h
+
+pub given-within : (r : GivenRead) (n : ℕ) {d : Descriptor} {p end cwd cwd-end next : ℕ} → r ≡ Given d p end cwd cwd-end next → GivenWithin r n → (p ≤ end) × (end ≤ n) × (cwd ≤ cwd-end) × (cwd-end ≤ n)
+given-within r n e h = subst (λ (x : GivenRead). GivenWithin x n) e h

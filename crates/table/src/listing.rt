@@ -1,0 +1,22 @@
+// Listing a table: what stands at an offset of lent memory, whatever the memory holds.
+use crate::Part;
+use crate::reading;
+ghost use Rattle.table.specs.Listing.{IsPart};
+
+// The entry at an offset.
+pub fn part_at(mem: &[u8], at: usize) -> Part
+    ensures { λ r. ⌜ IsPart (now (mem .entry)) at r ⌝ }
+{
+    if mem.len() < 3 {
+        return Part::Nothing;
+    }
+    if at > mem.len() - 3 {
+        return Part::Nothing;
+    }
+    let start = at + 3;
+    let len = reading::word_at(mem, at + 1);
+    if len > mem.len() - start {
+        return Part::Nothing;
+    }
+    Part::Entry(reading::kind_from(mem[at]), start, start + len)
+}

@@ -1,17 +1,19 @@
 -- Laws of scanning: the end of a component, names, and resolved form by names.
-use Prim.Native.Nat.{ℕ, suc, _+_, _-_, _≤_, _<_}
+use Prim.Native.Nat.{ℕ, zero, suc, _+_, _-_, _≤_, _<_}
 use mathlib.Core.Path.{_≡_, refl, sym, ap, _∙_}
 use mathlib.Core.List.{List, [], _∷_, _++_, tail-eq-of-cons-eq, nil≢cons}
-use mathlib.Core.Bool.{Bool, true, false, _&&_, not, false≢true}
+use mathlib.Core.Bool.{Bool, true, false, _&&_, _||_, not, false≢true}
 use native.Mathlib.Omega.{arith}
 use native.Mathlib.Numerals.{add-one}
 use lib.ListN.{length, getD, take, drop, length-drop, take-append-drop}
 use lib.Seq.{take-suc, drop-cons, drop-drop, getD-drop, take-all}
 use lib.Dec.{eqb}
-use borrow.Author.Tests.{le-leb, lt-leb, ne-eqb, eqb-true}
+use native.Mathlib.Decide.{decLt}
+use borrow.Author.Count.{below-more}
+use borrow.Author.Tests.{le-leb, lt-leb, ne-eqb, eq-eqb, eqb-true, eqb-false, not-true}
 use Rattle.paths.specs.Components.{slash, dot, same, grown, parted, pieces, slashed, spell}
 use Rattle.paths.specs.Resolving.{isAbsolute, isName, entered, enterAll, normalize, isResolved}
-use Rattle.paths.specs.Scanning.{piecesFrom, EndsAt, allNames}
+use Rattle.paths.specs.Scanning.{piecesFrom, EndsAt, allNames, plainPair, PlainBelow, plainAt, plainEight}
 use Rattle.paths.proofs.ComponentLaws.{
   and-left,
   and-right,
@@ -223,3 +225,92 @@ relative-unresolved p k = both (isResolved p) false (λ e. absurd (relative p k 
 pub empty-unresolved : (p : List ℕ) → length p ≡ 0 → isResolved p ≡ false
 empty-unresolved [] h = relative-unresolved [] (λ e. omega arith)
 empty-unresolved (a ∷ p) h = absurd (omega arith)
+
+-- ---- the quick test
+
+unfoldable behindFirst : List (List ℕ) → List (List ℕ)
+behindFirst [] = []
+behindFirst (c ∷ cs) = cs
+
+-- a byte and those behind it: behind a slash neither a slash nor a dot stands, and the last is no slash
+data Plain : ℕ → List ℕ → Type 0 where
+  last : {a : ℕ} → (a ≡ slash → ⊥) → Plain a []
+  next : {a b : ℕ} {p : List ℕ} → plainPair a b ≡ true → Plain b p → Plain a (b ∷ p)
+
+behindFirst-byte : (a : ℕ) (p : List ℕ) → (a ≡ slash → ⊥) → behindFirst (pieces (a ∷ p)) ≡ behindFirst (pieces p)
+unfolding behindFirst grown
+behindFirst-byte a p h = ap behindFirst (pieces-byte a p h) ∙ go (pieces p)
+  where
+    go : (cs : List (List ℕ)) → behindFirst (grown a cs) ≡ behindFirst cs
+    go [] = refl
+    go (c ∷ cs) = refl
+
+-- a component that begins with a dot may be no name, any other is one
+allNames-grown : (b : ℕ) (cs : List (List ℕ)) → (b ≡ dot → ⊥) → allNames (behindFirst cs) ≡ true → allNames (grown b cs) ≡ true
+unfolding allNames behindFirst grown
+allNames-grown b [] h e = and-both (isName-other (b ∷ []) (omega arith) h) refl
+allNames-grown b (c ∷ cs) h e = and-both (isName-other (b ∷ c) (omega arith) h) e
+
+pair-slash : (a b : ℕ) → plainPair a b ≡ true → a ≡ slash → (b ≡ slash → ⊥) × (b ≡ dot → ⊥)
+pair-slash a b e f =
+    let g : not (eqb b slash) && not (eqb b dot) ≡ true = rw (eq-eqb a slash f) at e in (
+      λ h. absurd (false≢true (sym (ap not (eq-eqb b slash h)) ∙ and-left (not (eqb b slash)) _ g)),
+      λ h. absurd (false≢true (sym (ap not (eq-eqb b dot h)) ∙ and-right (not (eqb b slash)) _ g)),
+    )
+
+plain-behind : {a : ℕ} {p : List ℕ} → Plain a p → allNames (behindFirst (pieces (a ∷ p))) ≡ true
+unfolding allNames behindFirst pieces
+plain-behind {a} (last h) = ap allNames (behindFirst-byte a [] h)
+plain-behind {a} (next {b = b} {p = p} e r) = go (eqb a slash) refl (plain-behind r)
+  where
+    go : (t : Bool) → eqb a slash ≡ t → allNames (behindFirst (pieces (b ∷ p))) ≡ true → allNames (behindFirst (pieces (a ∷ b ∷ p))) ≡ true
+    go false f g = ap allNames (behindFirst-byte a (b ∷ p) (eqb-false a slash f)) ∙ g
+    go true f g =
+        let h = pair-slash a b e (eqb-true a slash f) in
+        ap (λ (x : ℕ). allNames (behindFirst (pieces (x ∷ b ∷ p)))) (eqb-true a slash f)
+        ∙ ap (λ (cs : List (List ℕ)). allNames (behindFirst cs)) (pieces-slash (b ∷ p))
+        ∙ ap allNames (pieces-byte b p (h .0))
+        ∙ allNames-grown b (pieces p) (h .1) (sym (ap allNames (behindFirst-byte b p (h .0))) ∙ g)
+
+plain-by : (a : ℕ) (p : List ℕ) → ((k : ℕ) → k < length p → plainPair (getD (a ∷ p) k 0) (getD (a ∷ p) (k + 1) 0) ≡ true) → (getD (a ∷ p) (length p) 0 ≡ slash → ⊥) → Plain a p
+plain-by a [] f h = last h
+plain-by a (b ∷ p) f h = next (f 0 (omega arith)) (plain-by b p (λ k l. go k (f (suc k) (omega arith))) h)
+  where
+    go : (k : ℕ) → plainPair (getD (a ∷ b ∷ p) (suc k) 0) (getD (a ∷ b ∷ p) (suc k + 1) 0) ≡ true → plainPair (getD (b ∷ p) k 0) (getD (b ∷ p) (k + 1) 0) ≡ true
+    go k e =
+        let g : suc k + 1 ≡ suc (k + 1) = omega arith in
+        rw g at e
+
+pub plain-resolved : (p : List ℕ) (n : ℕ) → n + 1 ≡ length p → 1 < length p → getD p 0 0 ≡ slash → (getD p n 0 ≡ slash → ⊥) → PlainBelow p n → isResolved p ≡ true
+unfolding behindFirst pieces parted
+plain-resolved [] n e h k l f = absurd (omega arith)
+plain-resolved (a ∷ []) n e h k l f = absurd (omega arith)
+plain-resolved (a ∷ b ∷ q) n e h k l f =
+    let z : n ≡ length (b ∷ q) = omega arith in
+    ap (λ (x : ℕ). isResolved (x ∷ b ∷ q)) k ∙ resolved-when b q ∙ sym (ap (λ (x : ℕ). allNames (behindFirst (pieces (x ∷ b ∷ q)))) k)
+    ∙ plain-behind (plain-by a (b ∷ q) (λ m w. f .pairs m (omega arith)) (λ g. l (rw z g)))
+
+-- ---- the pairs tested so far
+
+module _ (p : List ℕ) where
+  pub plain-none : PlainBelow p 0
+  plain-none = record { pairs = λ k l. absurd (omega arith) }
+
+  plain-fewer : (m n : ℕ) → m ≤ n → PlainBelow p n → PlainBelow p m
+  plain-fewer m n h f = record { pairs = λ k l. f .pairs k (omega arith) }
+
+  pub plain-more : (n : ℕ) → PlainBelow p n → plainPair (getD p n 0) (getD p (n + 1) 0) ≡ true → PlainBelow p (n + 1)
+  plain-more n f e = record { pairs = below-more (λ (k : ℕ). plainPair (getD p k 0) (getD p (k + 1) 0) ≡ true) n (f .pairs) e }
+
+  -- one more, where a test of those before it and of this one holds
+  plain-tested : (at : ℕ) {t : Bool} (k : ℕ) → (t ≡ true → PlainBelow p (at + k)) → t && plainAt p at k ≡ true → PlainBelow p (at + (k + 1))
+  plain-tested at {t} k f e =
+      let g : at + (k + 1) ≡ at + k + 1 = omega arith in
+      rw g (plain-more (at + k) (f (and-left t _ e)) (rw g at (and-right t _ e)))
+
+  -- eight that begin where the tested ones end, or before
+  pub plain-eight : (at n m : ℕ) → at ≤ n → m ≤ at + 8 → PlainBelow p n → plainEight p at ≡ true → PlainBelow p m
+  plain-eight at n m h k f t =
+      plain-fewer m (at + 8) k
+      (plain-tested at 7 (plain-tested at 6 (plain-tested at 5 (plain-tested at 4 (plain-tested at 3 (plain-tested at 2 (plain-tested at 1
+      (plain-more at (plain-fewer at n h f)))))))) t)

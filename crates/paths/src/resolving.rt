@@ -2,13 +2,13 @@
 use crate::Resolution;
 use refusals::Refusal;
 ghost use mathlib.Core.Path.{_≡_};
-ghost use mathlib.Core.Bool.{false};
+ghost use mathlib.Core.Bool.{true, false};
 ghost use mathlib.Core.List.{[], _∷_, _++_};
-ghost use Prim.Native.Nat.{_+_, _≤_};
-ghost use lib.ListN.{length, take};
+ghost use Prim.Native.Nat.{_+_, _≤_, _<_};
+ghost use lib.ListN.{length, getD, take};
 ghost use Rattle.paths.specs.Components.{slash, pieces, slashed};
 ghost use Rattle.paths.specs.Resolving.{isAbsolute, join, isName, enterAll, isResolved, maxPath, isBadDirectory, Resolves};
-ghost use Rattle.paths.specs.Scanning.{EndsAt, allNames};
+ghost use Rattle.paths.specs.Scanning.{EndsAt, allNames, plainPair, plainEight, PlainBelow};
 ghost use Rattle.paths.specs.Entering.{overwritten, beforeLast, enteredBytes, enterAllBytes, Begins, rooted};
 ghost use Rattle.paths.specs.Answering.{tooLong, Answers};
 
@@ -62,6 +62,74 @@ fn all_names(p: &[u8]) -> bool
     true
 }
 
+// Whether a is no slash, or one behind which neither a slash nor a dot stands.
+fn plain_pair(a: u8, b: u8) -> bool
+    ensures { λ r. ⌜ r ≡ plainPair a b ⌝ }
+{
+    (a != b'/') | ((b != b'/') & (b != b'.'))
+}
+
+// The same of eight bytes from an offset on, each with the next. With no branch between them they are tested at once.
+fn plain_eight(p: &[u8], at: usize) -> bool
+    requires { ⌜ at + 8 < length (now p) ⌝ }
+    ensures { λ r. ⌜ r ≡ plainEight (now (p .entry)) at ⌝ }
+{
+    let a = p[at];
+    let b = p[at + 1];
+    let c = p[at + 2];
+    let d = p[at + 3];
+    let e = p[at + 4];
+    let f = p[at + 5];
+    let g = p[at + 6];
+    let h = p[at + 7];
+    let i = p[at + 8];
+    ((a != b'/') | ((b != b'/') & (b != b'.')))
+        & ((b != b'/') | ((c != b'/') & (c != b'.')))
+        & ((c != b'/') | ((d != b'/') & (d != b'.')))
+        & ((d != b'/') | ((e != b'/') & (e != b'.')))
+        & ((e != b'/') | ((f != b'/') & (f != b'.')))
+        & ((f != b'/') | ((g != b'/') & (g != b'.')))
+        & ((g != b'/') | ((h != b'/') & (h != b'.')))
+        & ((h != b'/') | ((i != b'/') & (i != b'.')))
+}
+
+// The same of the bytes before the last.
+fn plain_bytes(p: &[u8], last: usize) -> bool
+    requires { ⌜ last < length (now p) ⌝ }
+    ensures { λ r. ⌜ (r ≡ true → PlainBelow (now (p .entry)) last) ⌝ }
+{
+    let mut k: usize = 0;
+    while k < last {
+        if !plain_pair(p[k], p[k + 1]) {
+            return false;
+        }
+        k += 1;
+    }
+    true
+}
+
+// Whether a quick test finds p in resolved form: no component behind the first slash is empty or begins with a dot.
+fn is_plain(p: &[u8]) -> bool
+    requires { ⌜ (1 < length (now p)) × (getD (now p) 0 0 ≡ slash) ⌝ }
+    ensures { λ r. ⌜ (r ≡ true → isResolved (now (p .entry)) ≡ true) ⌝ }
+{
+    let last = p.len() - 1;
+    if p[last] == b'/' {
+        return false;
+    }
+    if last < 8 {
+        return plain_bytes(p, last);
+    }
+    let mut k: usize = 0;
+    while last - k > 8 {
+        if !plain_eight(p, k) {
+            return false;
+        }
+        k += 8;
+    }
+    plain_eight(p, last - 8)
+}
+
 // Whether p is in resolved form.
 pub fn is_resolved(p: &[u8]) -> bool
     ensures { λ r. ⌜ r ≡ isResolved (now (p .entry)) ⌝ }
@@ -73,6 +141,9 @@ pub fn is_resolved(p: &[u8]) -> bool
         return false;
     }
     if p.len() == 1 {
+        return true;
+    }
+    if is_plain(p) {
         return true;
     }
     all_names(&p[1..])

@@ -13,6 +13,7 @@ use Rattle.paths.proofs.RelatingLaws.{
   second-ends,
   Inside,
   inside-start,
+  inside-passed,
   inside-again,
   inside-end,
   inside-moved,
@@ -67,6 +68,15 @@ loop-holds c =
     let d = n .next-component2 .ensures in
     inside-start (between-begins (n .before .before .components .inv) b d) (b .begins (omega arith)) (d .begins (omega arith))
 
+same-run-requires : tie.Need-same-run-requires Inv-loop μ-loop Inv-components μ-components
+same-run-requires c κs = search needs
+
+add-i : tie.Need-add-i Inv-loop μ-loop Inv-components μ-components
+add-i c = search needs
+
+add-j : tie.Need-add-j Inv-loop μ-loop Inv-components μ-components
+add-j c = search needs
+
 rank-requires : tie.Need-rank-requires Inv-loop μ-loop Inv-components μ-components
 rank-requires c κs = search needs
 
@@ -78,30 +88,30 @@ components-less c =
     let r = c .before .before in
     omega (
       arith,
-      inside-moved (r .before .before .loop .inv) (r .before .rank .ensures) (r .rank2 .ensures) (c .if5 .taken),
-      r .before .before .before .before .before .before .next-component .ensures .behind,
+      inside-moved (inside-passed (r .before .before .before .loop .inv) (r .before .before .same-run .ensures)) (r .before .rank .ensures) (r .rank2 .ensures) (c .if5 .taken),
+      r .before .before .before .before .before .before .before .next-component .ensures .behind,
     )
 
 components-again : tie.Need-components-again Inv-loop μ-loop Inv-components μ-components
 components-again c =
     let r = c .before .before in
-    inside-end (r .before .before .loop .inv) (r .before .rank .ensures) (r .rank2 .ensures) (omega arith) (c .if5 .taken)
+    inside-end (inside-passed (r .before .before .before .loop .inv) (r .before .before .same-run .ensures)) (r .before .rank .ensures) (r .rank2 .ensures) (omega arith) (c .if5 .taken)
 
-add-i : tie.Need-add-i Inv-loop μ-loop Inv-components μ-components
-add-i c = search needs
+add-i-2 : tie.Need-add-i-2 Inv-loop μ-loop Inv-components μ-components
+add-i-2 c = search needs
 
-add-j : tie.Need-add-j Inv-loop μ-loop Inv-components μ-components
-add-j c = search needs
+add-j-2 : tie.Need-add-j-2 Inv-loop μ-loop Inv-components μ-components
+add-j-2 c = search needs
 
 loop-less : tie.Need-loop-less Inv-loop μ-loop Inv-components μ-components
 loop-less c =
     let r = c .before .before in
-    omega (arith, inside-again (r .before .before .loop .inv) (r .before .rank .ensures) (r .rank2 .ensures) (omega arith) (c .if5 .left) .left)
+    omega (arith, inside-again (inside-passed (r .before .before .before .loop .inv) (r .before .before .same-run .ensures)) (r .before .rank .ensures) (r .rank2 .ensures) (omega arith) (c .if5 .left) .left)
 
 loop-again : tie.Need-loop-again Inv-loop μ-loop Inv-components μ-components
 loop-again c =
     let r = c .before .before in
-    inside-again (r .before .before .loop .inv) (r .before .rank .ensures) (r .rank2 .ensures) (omega arith) (c .if5 .left)
+    inside-again (inside-passed (r .before .before .before .loop .inv) (r .before .before .same-run .ensures)) (r .before .rank .ensures) (r .rank2 .ensures) (omega arith) (c .if5 .left)
 
 rank-requires-3 : tie.Need-rank-requires-3 Inv-loop μ-loop Inv-components μ-components
 rank-requires-3 c κs = search needs
@@ -112,12 +122,12 @@ rank-requires-4 c κs = search needs
 returns-4 : tie.Need-returns-4 Inv-loop μ-loop Inv-components μ-components
 returns-4 c =
     let r = c .before in
-    inside-less (r .before .before .before .before .before .loop .inv) (r .before .rank3 .ensures) (r .rank4 .ensures) (omega arith)
+    inside-less (inside-passed (r .before .before .before .before .before .before .loop .inv) (r .before .before .before .before .before .same-run .ensures)) (r .before .rank3 .ensures) (r .rank4 .ensures) (omega arith)
 
 returns-5 : tie.Need-returns-5 Inv-loop μ-loop Inv-components μ-components
 returns-5 c =
     let r = c .before in
-    inside-greater (r .before .before .before .before .before .loop .inv) (r .before .rank3 .ensures) (r .rank4 .ensures) (omega arith)
+    inside-greater (inside-passed (r .before .before .before .before .before .before .loop .inv) (r .before .before .before .before .before .same-run .ensures)) (r .before .rank3 .ensures) (r .rank4 .ensures) (omega arith)
 
 pub relate-spec : {M : Type 1} → statement M
 relate-spec =
@@ -134,12 +144,15 @@ relate-spec =
     returns-2
     returns-3
     loop-holds
+    same-run-requires
+    add-i
+    add-j
     rank-requires
     rank-requires-2
     components-less
     components-again
-    add-i
-    add-j
+    add-i-2
+    add-j-2
     loop-less
     loop-again
     rank-requires-3

@@ -1,0 +1,4 @@
+pub mod DecisionLaws
+pub mod CarryingLaws
+pub mod FittingLaws
+pub mod TextLaws

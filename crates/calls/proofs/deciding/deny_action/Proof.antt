@@ -1,0 +1,27 @@
+-- `deny_action` meets its contract, with a path and with none.
+use Rattle.walk.specs.Walk.{queryOf}
+use Rattle.calls.specs.Decisions.{denyAct, actOf}
+use borrow.Author.Needs.{needs}
+use Rattle.calls.proofs.deciding.deny_action.Statement.{statement}
+use Rattle.calls.proofs.deciding.deny_action.Tie as tie
+
+enum-told : tie.Need-enum-told
+enum-told c = search needs
+
+switch-action-requires : tie.Need-switch-action-requires
+switch-action-requires c κs = search needs
+
+enum-told-2 : tie.Need-enum-told-2
+enum-told-2 c = search needs
+
+returns : tie.Need-returns
+unfolding denyAct queryOf
+returns c q = rw (c .before .enum-told .given .1) (c .switch-action .ensures q)
+
+returns-2 : tie.Need-returns-2
+unfolding denyAct queryOf actOf
+returns-2 c q = rw (c .enum-told2 .given .1)
+
+pub deny-action-spec : {M : Type 1} → statement M
+deny-action-spec =
+    tie.close (tie.spec enum-told switch-action-requires enum-told-2 returns returns-2)

@@ -1,4 +1,4 @@
--- What check and request decide on fits a table, where a path that is asked about can be an entry's. Callers cite the two laws at the end.
+-- What check and request decide on fits a table, where a path that is asked about can be an entry's. Callers cite the laws at the end and `grant-fits`.
 use Prim.Native.Nat.{ℕ, _+_, _/_, _%_, _≤_}
 use mathlib.Core.Path.{_≡_, refl}
 use mathlib.Core.List.{List}
@@ -47,7 +47,7 @@ use Rattle.calls.specs.Decisions.{
 
 -- ---- the switches stay within their limit
 
-switch-limit : (n bit : ℕ) (b : Bool) → has n bit ≡ b → n ≤ maxSwitches → ((n / bit % 2 ≡ 1 → ⊥) → n + bit ≤ maxSwitches) → setBit n bit ≤ maxSwitches
+pub switch-limit : (n bit : ℕ) (b : Bool) → has n bit ≡ b → n ≤ maxSwitches → ((n / bit % 2 ≡ 1 → ⊥) → n + bit ≤ maxSwitches) → setBit n bit ≤ maxSwitches
 unfolding setBit has
 switch-limit n bit true e h k = rw e h
 switch-limit n bit false e h k = rw e (k (eqb-false _ _ e))
@@ -68,7 +68,7 @@ module _ (t : Table) (v : isTable t ≡ true) where
   -- ---- each act
 
   module _ (q : List ℕ) where
-    grant-fits : (d : Descriptor) → (d ≡ Path → isEntry (record { kind = G; path = q }) ≡ true) → actFits (some (grantAct t (queryOf d q))) ≡ true
+    pub grant-fits : (d : Descriptor) → (d ≡ Path → isEntry (record { kind = G; path = q }) ≡ true) → actFits (some (grantAct t (queryOf d q))) ≡ true
     grant-fits NoPath e = unfold grantAct queryOf in granted-fits
     grant-fits Path e = unfold grantAct queryOf actFits in e refl
 
@@ -120,10 +120,13 @@ module _ (t : Table) (v : isTable t ≡ true) where
       checked-or-passed false state response = checked-fits state response
 
       -- what a check decides on fits
+      pub check-act-fits : (response : PromptResponse) → actFits (checkDesc t (queryOf d q) response .act) ≡ true
+      unfolding checkDesc
+      check-act-fits response = checked-or-passed (isAllowAll t) _ response
+
       pub check-fits : (response : PromptResponse) (r : CheckDecided) → CheckDecides (checkDesc t (queryOf d q) response) q r
           → actFits (actOf (r .action) q) ≡ true
-      unfolding checkDesc
-      check-fits response r D = rw (D .act) (checked-or-passed (isAllowAll t) _ response)
+      check-fits response r D = rw (D .act) (check-act-fits response)
 
       -- and so does what a request decides on
       pub request-fits : (response : PromptResponse) (r : RequestDecided) → RequestDecides (requestDesc t (queryOf d q) response) q r

@@ -9,7 +9,7 @@ use lib.ListN.{length, getD, length-append}
 use lib.Dec.{eqb}
 use Rattle.paths.specs.Components.{slash}
 use Rattle.paths.specs.Resolving.{isAbsolute}
-use Rattle.table.specs.Memory.{overwrite}
+use Rattle.paths.specs.Copying.{overwrite}
 use Rattle.table.proofs.Overwrites.{over-above}
 use Rattle.walk.specs.declared.Descriptor.{Descriptor}
 use Rattle.walk.specs.declared.Descriptor.the-variants.{NoPath, Path}

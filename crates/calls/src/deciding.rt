@@ -71,7 +71,7 @@ fn switch_action(mem: &[u8], bit: u8) -> Action
 }
 
 // A yes.
-fn grant_action(mem: &[u8], d: Descriptor) -> Action
+pub fn grant_action(mem: &[u8], d: Descriptor) -> Action
     requires { ⌜ holds (now mem) ≡ true ⌝ }
     ensures { λ r. ⌜ ((q : List ℕ) → actOf r q ≡ some (grantAct (tableOf (now (mem .entry))) (queryOf d q))) ⌝ }
 {

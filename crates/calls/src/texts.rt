@@ -1,5 +1,5 @@
 // The texts: written when the operator is asked and when a check fails.
-use table::writing::copy_in;
+use paths::copying::copy_in;
 use walk::Descriptor;
 ghost use mathlib.Core.Path.{_≡_};
 ghost use mathlib.Core.Bool.{_&&_};

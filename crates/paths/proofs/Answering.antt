@@ -32,7 +32,8 @@ use Rattle.paths.specs.Resolving.{
   resolvedInto,
   Resolves,
 }
-use Rattle.paths.specs.Entering.{overwritten, enterAllBytes, Begins, rooted}
+use Rattle.paths.specs.Copying.{overwrite}
+use Rattle.paths.specs.Entering.{enterAllBytes, Begins, rooted}
 use Rattle.paths.specs.Answering.{tooLong, Answers}
 use Rattle.paths.proofs.Entering.{other-length, entered-one, entered-both}
 
@@ -121,14 +122,14 @@ module _ (path space : List ℕ) where
   unfolding tooLong firstCause answered spaceAfter
   answers-long h = record { answer = rw (lt-ltb maxPath (length path) h); bytes = rw (lt-ltb maxPath (length path) h) }
 
-  answers-path : {after : List ℕ} → length path ≤ maxPath → after ≡ overwritten space 0 path → Answers path (tooLong path) space (Resolved (length path)) after
-  unfolding tooLong firstCause answered spaceAfter overwritten
+  answers-path : {after : List ℕ} → length path ≤ maxPath → after ≡ overwrite space 0 path → Answers path (tooLong path) space (Resolved (length path)) after
+  unfolding tooLong firstCause answered spaceAfter overwrite
   answers-path h e = record {
     answer = rw (le-ltb maxPath (length path) h);
     bytes = e ∙ rw (le-ltb maxPath (length path) h, zero-add (length path));
   }
 
-pub handed-root : (w space : List ℕ) (len : ℕ) {after : List ℕ} → len ≡ 0 → after ≡ overwritten space 0 (slash ∷ [])
+pub handed-root : (w space : List ℕ) (len : ℕ) {after : List ℕ} → len ≡ 0 → after ≡ overwrite space 0 (slash ∷ [])
     → Answers (rooted (take len w)) (tooLong (rooted (take len w))) space (Resolved 1) after
 unfolding rooted
 handed-root w space len z e = rw z (answers-path (slash ∷ []) space (omega arith) e)
@@ -140,7 +141,7 @@ module _ (w space : List ℕ) (len : ℕ) (h : len ≤ length w) where
   pub handed-long : maxPath < len → Answers (rooted (take len w)) (tooLong (rooted (take len w))) space (Refused ResolvedTooLong) space
   handed-long k = rw (whole (omega arith)) (answers-long (take len w) space (omega (arith, length-take-le len w h)))
 
-  pub handed-path : {after : List ℕ} → (len ≡ 0 → ⊥) → len ≤ maxPath → after ≡ overwritten space 0 (take len w)
+  pub handed-path : {after : List ℕ} → (len ≡ 0 → ⊥) → len ≤ maxPath → after ≡ overwrite space 0 (take len w)
       → Answers (rooted (take len w)) (tooLong (rooted (take len w))) space (Resolved len) after
   handed-path {after = after} z k e =
       rw (whole (omega arith))

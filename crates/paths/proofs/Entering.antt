@@ -5,41 +5,31 @@ use mathlib.Core.List.{List, [], _∷_, _++_, dropLast, append-assoc, append-nil
 use mathlib.Core.Bool.{Bool, true, false, _&&_, _||_, not, cond, false≢true}
 use native.Mathlib.Omega.{arith}
 use native.Mathlib.Numerals.{add-one}
-use lib.ListN.{length, getD, take, drop, set, length-append, length-set, length-drop}
-use lib.Seq.{paste, paste-suc, take-suc, take-length, take-at, take-suc-set, length-take-le, append-snoc}
+use lib.ListN.{length, getD, take, drop, set, length-set, length-drop}
+use lib.Seq.{take-suc, take-suc-set, length-take-le, append-snoc}
 use lib.Dec.{eqb}
 use borrow.Author.Tests.{ne-eqb}
 use Rattle.paths.specs.Components.{slash, dot, same, grown, parted, pieces, slashed}
 use Rattle.paths.specs.Resolving.{isName, entered, enterAll}
 use Rattle.paths.specs.Scanning.{piecesFrom, EndsAt}
-use Rattle.paths.specs.Entering.{overwritten, hasSlash, beforeLast, enteredBytes, enterAllBytes, Begins}
+use Rattle.paths.specs.Copying.{overwrite}
+use Rattle.paths.specs.Entering.{hasSlash, beforeLast, enteredBytes, enterAllBytes, Begins}
+use Rattle.paths.proofs.CopyLaws.{take-over}
 use Rattle.paths.proofs.ComponentLaws.{Unslashed, none, more, Each, nil, cons, pieces-slash, pieces-unslashed, slashed-pieces}
 use Rattle.paths.proofs.ResolvingLaws.{each-entered}
 use Rattle.paths.proofs.Scanning.{and-false, piecesFrom-start, piecesFrom-out}
 
--- ---- bytes written over others
-
--- one byte more of a copy
-pub paste-more : (m : List ℕ) (at : ℕ) (s : List ℕ) (i : ℕ) → at + i < length m → i < length s → set (paste m at s i) (at + i) (getD s i 0) ≡ paste m at s (i + 1)
-paste-more m at s i hm hs = rw add-one (paste-suc m at s i 0 hm hs)
-
-pub paste-whole : (m : List ℕ) (at : ℕ) (s : List ℕ) → paste m at s (length s) ≡ overwritten m at s
-unfolding overwritten
-paste-whole m at s = ap (λ (l : List ℕ). take at m ++ l ++ drop (at + length s) m) (take-length s)
-
-take-overwritten : (m : List ℕ) (at : ℕ) (s : List ℕ) → at + length s ≤ length m → take (at + length s) (overwritten m at s) ≡ take at m ++ s
-unfolding overwritten
-take-overwritten m at s h = take-at (take at m ++ s) (drop (at + length s) m) (at + length s) (simp (length-append, length-take-le at m (omega arith)))
+-- ---- a name written into the work area
 
 take-stored : (w : List ℕ) (n b : ℕ) → n < length w → take (n + 1) (set w n b) ≡ take n w ++ b ∷ []
 take-stored w n b h = rw (add-one n) (take-suc-set w n b h)
 
 -- a slash stored at n, and a name written behind it
-pub name-added : (w w′ : List ℕ) (n : ℕ) (c : List ℕ) → n + 1 + length c ≤ length w → w′ ≡ overwritten (set w n slash) (n + 1) c
+pub name-added : (w w′ : List ℕ) (n : ℕ) (c : List ℕ) → n + 1 + length c ≤ length w → w′ ≡ overwrite (set w n slash) (n + 1) c
     → Begins w′ (n + 1 + length c) (n + 1 + length c) (take n w ++ slash ∷ c)
 name-added w w′ n c h e = record {
   few = omega arith;
-  front = ap (take (n + 1 + length c)) e ∙ take-overwritten (set w n slash) (n + 1) c (simp length-set h)
+  front = ap (take (n + 1 + length c)) e ∙ take-over (set w n slash) (n + 1) c (simp length-set h)
       ∙ ap (λ (l : List ℕ). l ++ c) (take-stored w n slash (omega arith)) ∙ append-snoc (take n w) slash c;
 }
 

@@ -1,15 +1,11 @@
 -- Resolving in bytes: the components entered so far stand in a work area, each behind a slash.
-use Prim.Native.Nat.{ℕ, _+_, _≤_}
+use Prim.Native.Nat.{ℕ, _≤_}
 use mathlib.Core.Path.{_≡_}
 use mathlib.Core.List.{List, [], _∷_, _++_}
 use mathlib.Core.Bool.{Bool, false, _||_, cond}
-use lib.ListN.{length, take, drop}
+use lib.ListN.{take}
 use lib.Dec.{eqb}
 use Rattle.paths.specs.Components.{slash, dot, same}
-
--- bytes written over others from an offset on
-unfoldable pub overwritten : List ℕ → ℕ → List ℕ → List ℕ
-overwritten m at s = take at m ++ s ++ drop (at + length s) m
 
 unfoldable pub hasSlash : List ℕ → Bool
 hasSlash [] = false

@@ -1,6 +1,7 @@
 // Paths: resolving one, and how two of them relate. The definitions are in specs/.
 use refusals::Refusal;
 
+pub mod copying;
 pub mod relating;
 pub mod resolving;
 

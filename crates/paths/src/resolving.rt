@@ -1,5 +1,6 @@
 // Resolved form, and resolving a path in a working directory.
 use crate::Resolution;
+use crate::copying::copy_in;
 use refusals::Refusal;
 ghost use mathlib.Core.Path.{_≡_};
 ghost use mathlib.Core.Bool.{true, false};
@@ -9,7 +10,7 @@ ghost use lib.ListN.{length, getD, take};
 ghost use Rattle.paths.specs.Components.{slash, pieces, slashed};
 ghost use Rattle.paths.specs.Resolving.{isAbsolute, join, isName, enterAll, isResolved, maxPath, isBadDirectory, Resolves};
 ghost use Rattle.paths.specs.Scanning.{EndsAt, allNames, plainPair, plainEight, PlainBelow};
-ghost use Rattle.paths.specs.Entering.{overwritten, beforeLast, enteredBytes, enterAllBytes, Begins, rooted};
+ghost use Rattle.paths.specs.Entering.{beforeLast, enteredBytes, enterAllBytes, Begins, rooted};
 ghost use Rattle.paths.specs.Answering.{tooLong, Answers};
 
 // Where the component that begins at an offset ends: at the next slash, or at the path's end.
@@ -147,18 +148,6 @@ pub fn is_resolved(p: &[u8]) -> bool
         return true;
     }
     all_names(&p[1..])
-}
-
-// Copies src into mem from an offset on.
-fn copy_in(mem: &mut [u8], at: usize, src: &[u8])
-    requires { ⌜ at + length (now src) ≤ length (now mem) ⌝ }
-    ensures { λ _. ⌜ now (mem .exit) ≡ overwritten (now (mem .entry)) at (now (src .entry)) ⌝ }
-{
-    let mut i: usize = 0;
-    while i < src.len() {
-        mem[at + i] = src[i];
-        i += 1;
-    }
 }
 
 // Puts a slash and a name behind the first len bytes of the work area, and says how many bytes there are then.

@@ -13,6 +13,7 @@ use Rattle.refusals.specs.Refusals.{Condition, when, firstCause}
 use Rattle.refusals.proofs.CauseLaws.{cause-holds, cause-passes, cause-append-none, cause-append-some}
 use Rattle.table.specs.declared.Outcome.{Outcome}
 use Rattle.table.specs.declared.Outcome.the-variants.{Done, Refused}
+use Rattle.paths.specs.Copying.{overwrite}
 use Rattle.paths.specs.Resolving.{maxPath, resolve, pathConditions}
 use Rattle.paths.proofs.ComponentLaws.{and-both}
 use Rattle.paths.proofs.ResolvingLaws.{resolve-resolved}
@@ -22,7 +23,7 @@ use Rattle.table.specs.Entries.{Entry}
 use Rattle.table.specs.Acts.{insert, revoke, applyAct, overflows}
 use Rattle.table.specs.Inserting.{Inserts}
 use Rattle.table.specs.Tables.{Table, fresh, maxSwitches, isEntry}
-use Rattle.table.specs.Memory.{tableBytes, kindFrom, tableOf, encode, encodeAll, overwrite, put, holds}
+use Rattle.table.specs.Memory.{tableBytes, kindFrom, tableOf, encode, encodeAll, put, holds}
 use Rattle.table.specs.Calls.{
   Does,
   outcomeOf,

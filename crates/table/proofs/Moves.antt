@@ -6,13 +6,9 @@ use native.Mathlib.Omega.{arith}
 use native.Mathlib.Numerals.{add-one}
 use native.Mathlib.Nat.{add-suc, suc-add}
 use lib.ListN.{length, getD, take, drop, set, length-drop, List·getD-append}
-use Rattle.table.specs.Memory.{overwrite}
-use lib.Seq.{paste, take-length, paste-suc, length-paste-head, getD-append-add, getD-drop, getD-take, drop-cons, take-suc, set-at, append-snoc, length-take-le}
-
--- upwards: one byte more
-pub paste-more : (d : List ℕ) (at : ℕ) (s : List ℕ) (i : ℕ) → at + i < length d → i < length s
-    → set (paste d at s i) (at + i) (getD s i 0) ≡ paste d at s (i + 1)
-paste-more d at s i hd hs = rw add-one (paste-suc d at s i 0 hd hs)
+use lib.Seq.{paste, length-paste-head, getD-append-add, getD-drop, getD-take, drop-cons, take-suc, set-at, append-snoc, length-take-le}
+use Rattle.paths.specs.Copying.{overwrite}
+use Rattle.paths.proofs.CopyLaws.{paste-more}
 
 -- downwards: one byte more
 pub paste-less : (d : List ℕ) (at x : ℕ) (s : List ℕ) (n : ℕ) → at < length d
@@ -73,7 +69,3 @@ moved-up d e from to n left h k some less q =
 pub paste-over : (d : List ℕ) (at : ℕ) (s : List ℕ) (n : ℕ) → n ≤ length s → paste d at s n ≡ overwrite d at (take n s)
 unfolding overwrite
 paste-over d at s n h = ap (λ (k : ℕ). take at d ++ take n s ++ drop (at + k) d) (sym (length-take-le n s h))
-
-pub paste-whole : (d : List ℕ) (at : ℕ) (s : List ℕ) → paste d at s (length s) ≡ overwrite d at s
-unfolding overwrite
-paste-whole d at s = ap (λ (l : List ℕ). take at d ++ l ++ drop (at + length s) d) (take-length s)

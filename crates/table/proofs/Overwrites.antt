@@ -6,9 +6,11 @@ use native.Mathlib.Omega.{arith}
 use native.Mathlib.Nat.{add-assoc}
 use native.Mathlib.Numerals.{towards-suc}
 use lib.ListN.{length, take, drop, set, length-append, length-drop}
-use lib.Seq.{sets, sets-eq, take-at, drop-at, take-append-le, drop-append-add, take-take, drop-drop, length-take-le}
+use lib.Seq.{sets, sets-eq, drop-at, take-append-le, drop-append-add, take-take, drop-drop, length-take-le}
+use Rattle.paths.specs.Copying.{overwrite}
+use Rattle.paths.proofs.CopyLaws.{length-front, take-over}
 use Rattle.table.specs.Entries.{Entry, kindNumber}
-use Rattle.table.specs.Memory.{overwrite, encodeEntry}
+use Rattle.table.specs.Memory.{encodeEntry}
 
 pub over-sets : (vs l : List ℕ) (i : ℕ) → i + length vs ≤ length l → sets l i vs ≡ overwrite l i vs
 unfolding overwrite
@@ -19,10 +21,7 @@ module _ (m : List ℕ) (at : ℕ) (s : List ℕ) (h : at + length s ≤ length 
   unfolding overwrite
   length-overwrite = simp (length-append, length-drop, length-take-le at m (omega arith)) (omega arith)
 
-  length-front : length (take at m ++ s) ≡ at + length s
-  length-front = simp (length-append, length-take-le at m (omega arith))
-
-  -- what lies before, up to its end, and behind it
+  -- what lies before it, from its start on, and behind it
   pub take-before : (k : ℕ) → k ≤ at → take k (overwrite m at s) ≡ take k m
   unfolding overwrite
   take-before k le =
@@ -30,10 +29,6 @@ module _ (m : List ℕ) (at : ℕ) (s : List ℕ) (h : at + length s ≤ length 
       ap (take k) (append-assoc (take at m) s (drop (at + length s) m))
       ∙ take-append-le k (take at m) _ (omega arith)
       ∙ take-take k at m le
-
-  pub take-over : take (at + length s) (overwrite m at s) ≡ take at m ++ s
-  unfolding overwrite
-  take-over = take-at (take at m ++ s) _ _ length-front
 
   pub drop-from : drop at (overwrite m at s) ≡ s ++ drop (at + length s) m
   unfolding overwrite
@@ -44,7 +39,7 @@ module _ (m : List ℕ) (at : ℕ) (s : List ℕ) (h : at + length s ≤ length 
   pub drop-behind : (k : ℕ) → drop (at + length s + k) (overwrite m at s) ≡ drop (at + length s + k) m
   unfolding overwrite
   drop-behind k =
-      ap (λ (j : ℕ). drop (j + k) (overwrite m at s)) (sym length-front)
+      ap (λ (j : ℕ). drop (j + k) (overwrite m at s)) (sym (length-front m at s h))
       ∙ drop-append-add (take at m ++ s) (drop (at + length s) m) k
       ∙ drop-drop k (at + length s) m
 

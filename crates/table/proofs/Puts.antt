@@ -39,13 +39,14 @@ unfolding holds
 valid-of m e = and-right (leb tableBytes (length m) && areWithin m (wordAt m 0) 4) _ e
 
 module _ (m : List ℕ) (bytes : Bytes m) (h : holds m ≡ true) where
-  encode-front : encode (tableOf m) ≡ take (offsetAt m (wordAt m 0) 4) m
+  -- its table stands at its start
+  pub encode-front : encode (tableOf m) ≡ take (offsetAt m (wordAt m 0) 4) m
   unfolding tableOf
   encode-front =
       head-of (tableOf m) (wordAt m 0) _ _ _ (length-entries m (wordAt m 0) 4) refl refl refl
       ∙ rw (digits-div (getD m 0 0) (bytes 1), digits-mod (getD m 0 0) (bytes 1)) (sym (front m bytes h (wordAt m 0) (omega arith)))
 
-  length-encoded : length (encode (tableOf m)) ≡ offsetAt m (wordAt m 0) 4
+  pub length-encoded : length (encode (tableOf m)) ≡ offsetAt m (wordAt m 0) 4
   unfolding encode tableOf
   length-encoded = omega (arith, entries-size m (wordAt m 0) 4 (rest-start m h))
 

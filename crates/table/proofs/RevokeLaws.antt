@@ -43,7 +43,6 @@ use Rattle.table.specs.Memory.{
   encodeEntry,
   encodeAll,
   encode,
-  overwrite,
   put,
 }
 use Rattle.table.proofs.TableLaws.{valid-parts, parts-valid}
@@ -51,6 +50,7 @@ use Rattle.table.proofs.Within.{held, Here, Rest, rest-start, rest-here
 use Rattle.table.proofs.Codec.{Bytes, length-encodeEntry, length-encode, encodeAll-append, head-of, entry-law, front}
 use Rattle.table.proofs.Overwrites.{drop-behind, over-above, headed}
 use Rattle.table.proofs.Puts.{Left, left-put, long-of, valid-of, put-self, tableOf-put, put-put}
+use Rattle.paths.specs.Copying.{overwrite}
 use Rattle.paths.specs.Relations.{isPrefix}
 use Rattle.paths.proofs.ComponentLaws.{and-left, and-right}
 
@@ -361,7 +361,7 @@ module _ (dropped : Entry → Bool) (grants : (e : Entry) → dropped e ≡ true
         marks = old .marks ∙ sym (marks-without (t .entries));
       })
 
-clear-less : (n bit : ℕ) → clearBit n bit ≤ n
+pub clear-less : (n bit : ℕ) → clearBit n bit ≤ n
 unfolding clearBit
 clear-less n bit = go (has n bit)
   where

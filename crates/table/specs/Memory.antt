@@ -80,10 +80,6 @@ unfoldable pub encode : Table → List ℕ
 encode t =
     length (t .entries) / 256 ∷ length (t .entries) % 256 ∷ t .switches ∷ t .marks ∷ encodeAll (t .entries)
 
--- m with s written from `at` on
-unfoldable pub overwrite : List ℕ → ℕ → List ℕ → List ℕ
-overwrite m at s = take at m ++ s ++ drop (at + length s) m
-
 -- m with t written at its start; what lies behind t stays
 unfoldable pub put : Table → List ℕ → List ℕ
 put t m = encode t ++ drop (length (encode t)) m

@@ -1,10 +1,12 @@
 // Writing into lent memory: each function writes a run of bytes from an offset on, and nothing else.
 use crate::Kind;
+use paths::copying::copy_in;
 ghost use mathlib.Core.Path.{_≡_};
 ghost use Prim.Native.Nat.{_+_, _<_, _≤_};
 ghost use lib.ListN.{length, take, drop};
+ghost use Rattle.paths.specs.Copying.{overwrite};
 ghost use Rattle.table.specs.Entries.{Entry, kindNumber};
-ghost use Rattle.table.specs.Memory.{word, encodeEntry, overwrite};
+ghost use Rattle.table.specs.Memory.{word, encodeEntry};
 
 // The kind byte of a kind.
 pub fn kind_number(kind: Kind) -> u8
@@ -38,18 +40,6 @@ pub fn move_down(mem: &mut [u8], from: usize, to: usize, n: usize)
     let mut i: usize = 0;
     while i < n {
         mem[to + i] = mem[from + i];
-        i += 1;
-    }
-}
-
-// Copies src into mem from an offset on.
-pub fn copy_in(mem: &mut [u8], at: usize, src: &[u8])
-    requires { ⌜ at + length (now src) ≤ length (now mem) ⌝ }
-    ensures { λ _. ⌜ now (mem .exit) ≡ overwrite (now (mem .entry)) at (now (src .entry)) ⌝ }
-{
-    let mut i: usize = 0;
-    while i < src.len() {
-        mem[at + i] = src[i];
         i += 1;
     }
 }

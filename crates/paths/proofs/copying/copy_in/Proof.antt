@@ -1,14 +1,14 @@
--- A turn writes one byte more of src. Assumes nothing.
-use Prim.Native.Nat.{_-_, _≤_}
-use mathlib.Core.Path.{_≡_, refl, _∙_}
+-- `copy_in` meets its contract. The loop's invariant: the first `i` bytes of src are copied.
 use borrow.Author.Needs.{needs}
 use native.Mathlib.Omega.{arith}
+use Prim.Native.Nat.{_-_, _≤_}
+use mathlib.Core.Path.{_≡_, refl, _∙_}
 use denote.Ref.{now}
 use lib.ListN.{length, length-set}
 use lib.Seq.{paste, paste-zero}
-use Rattle.paths.proofs.Entering.{paste-more, paste-whole}
-use Rattle.paths.proofs.resolving.copy_in.Statement.{statement}
-use Rattle.paths.proofs.resolving.copy_in.Tie as tie
+use Rattle.paths.proofs.CopyLaws.{paste-more, paste-whole}
+use Rattle.paths.proofs.copying.copy_in.Statement.{statement}
+use Rattle.paths.proofs.copying.copy_in.Tie as tie
 
 abbrev Inv-loop : tie.InvT-loop
 Inv-loop mem₀ at src i₀ mem i = (i ≤ length src) × (mem ≡ paste mem₀ at src i) × (length mem ≡ length mem₀)
@@ -49,8 +49,8 @@ same-length c = search needs
 returns : tie.Need-returns Inv-loop μ-loop
 returns c =
     let l = c .before in
+    let z : l .loop .i ≡ length (now (l .before .args .src)) = omega arith in
     let a = l .before .args in
-    let z : l .loop .i ≡ length (now (a .src)) = omega arith in
     l .loop .inv .1 ∙ rw z (paste-whole (now (a .mem)) (a .at) (now (a .src)))
 
 pub copy-in-spec : {M : Type 1} → statement M

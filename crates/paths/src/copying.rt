@@ -1,0 +1,17 @@
+// Copying bytes into lent memory.
+ghost use mathlib.Core.Path.{_≡_};
+ghost use Prim.Native.Nat.{_+_, _≤_};
+ghost use lib.ListN.{length};
+ghost use Rattle.paths.specs.Copying.{overwrite};
+
+// Copies src into mem from an offset on.
+pub fn copy_in(mem: &mut [u8], at: usize, src: &[u8])
+    requires { ⌜ at + length (now src) ≤ length (now mem) ⌝ }
+    ensures { λ _. ⌜ now (mem .exit) ≡ overwrite (now (mem .entry)) at (now (src .entry)) ⌝ }
+{
+    let mut i: usize = 0;
+    while i < src.len() {
+        mem[at + i] = src[i];
+        i += 1;
+    }
+}

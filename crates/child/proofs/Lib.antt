@@ -1,0 +1,5 @@
+pub mod MakingLaws
+pub mod ArgumentLaws
+pub mod GrantingLaws
+pub mod TakeOverLaws
+pub mod CreatingLaws

@@ -1,0 +1,21 @@
+// A child's table, made from its parent's: the Rust's `create_child_permissions`. The definitions are in specs/.
+use table::Outcome;
+
+pub mod arguments;
+pub mod creating;
+pub mod granting;
+pub mod inheriting;
+
+// What a child is to have, with the Rust's names: document 01's child codes Inherit, Granted, NotGranted and list, in its order.
+pub enum ChildUnaryPermissionArg {
+    Inherit,
+    Granted,
+    NotGranted,
+    GrantedList,
+}
+
+// What a child call answers, and how often the operator was asked.
+pub struct ChildMade {
+    pub outcome: Outcome,
+    pub asked: usize,
+}

@@ -39,6 +39,9 @@ extern "C" {
 #define PERMISSIONS_MAX_PATH_BYTES 1024u      /* of a path, as given or resolved, and of a working directory */
 #define PERMISSIONS_MAX_PATH_SUM_BYTES 32768u /* of all paths in a table */
 
+/* The size of the space for a check's text. More may be lent, and is left alone. */
+#define PERMISSIONS_TEXT_BYTES 1041u
+
 /* Kinds of an entry. */
 enum permissions_kind {
     PERMISSIONS_GRANTED_ENTRY = 0,
@@ -73,10 +76,18 @@ enum permissions_state {
     PERMISSIONS_IGNORED = 5
 };
 
+/* The operator's answer. */
+enum permissions_answer {
+    PERMISSIONS_DENY = 0,
+    PERMISSIONS_ALLOW = 1,
+    PERMISSIONS_ALLOW_ALL = 2 /* reading as a whole */
+};
+
 /* Refusals, as results. */
 enum permissions_refusal {
     PERMISSIONS_NO_TABLE = -1,           /* the memory is too small for a table, or holds none */
-    PERMISSIONS_UNKNOWN = -3,            /* a mode or kind is unknown, or switches are above 31 */
+    PERMISSIONS_NO_SPACE = -2,           /* the text space is under 1,041 bytes */
+    PERMISSIONS_UNKNOWN = -3,            /* an answer, mode or kind is unknown, or switches are above 31 */
     PERMISSIONS_EMPTY_PATH = -4,         /* the path is empty */
     PERMISSIONS_PATH_TOO_LONG = -5,      /* the path is over 1,024 bytes */
     PERMISSIONS_BAD_DIRECTORY = -6,      /* a relative path, and a working directory that is empty,
@@ -122,6 +133,77 @@ int32_t permissions_query(const uint8_t *memory, size_t memory_size, uint32_t mo
  *   mode                  enum permissions_mode
  * Result: enum permissions_state; refusals 1, 3. */
 int32_t permissions_query_all(const uint8_t *memory, size_t memory_size, uint32_t mode);
+
+/* Checks a path: may it be read? Where the switch for it is set and no rule
+ * decides, the operator is asked, and the answer handed in counts: Allow inserts
+ * the path as granted, AllowAll sets switch GRANTED, Deny inserts the path as
+ * prompt-denied. Where the operator is asked and where the check fails, the text
+ * is written from the start of its space, `read access to "PATH"`, not ended by a
+ * zero byte; no more of the space is touched.
+ *   memory, memory_size        the table
+ *   path, path_size            the path, as given
+ *   directory, directory_size  the working directory; looked at only if the path is relative
+ *   answer                     enum permissions_answer; must be known even if nobody is asked
+ *   text, text_size            where the text goes
+ * Result: see the functions below; refusals 1 to 8. */
+int32_t permissions_check(uint8_t *memory, size_t memory_size,
+                          const uint8_t *path, size_t path_size,
+                          const uint8_t *directory, size_t directory_size,
+                          uint32_t answer, uint8_t *text, size_t text_size);
+
+/* Checks reading as a whole, with no path. A yes sets switch GRANTED, Deny sets
+ * switch PROMPT_DENIED; the text is `read access`.
+ *   memory, memory_size   the table
+ *   answer                enum permissions_answer
+ *   text, text_size       where the text goes
+ * Result: see the functions below; refusals 1 to 3. */
+int32_t permissions_check_all(uint8_t *memory, size_t memory_size,
+                              uint32_t answer, uint8_t *text, size_t text_size);
+
+/* Requests a path: what state has it, and may it be granted for later? Granted
+ * inserts the path as granted. Where no rule decides, the state is Denied, unless
+ * the operator may be asked; then the answer counts as in a check, and the state
+ * is Granted or Denied. The text is written only if the operator is asked.
+ * Arguments as for permissions_check.
+ * Result: see the functions below; refusals 1 to 8. */
+int32_t permissions_request(uint8_t *memory, size_t memory_size,
+                            const uint8_t *path, size_t path_size,
+                            const uint8_t *directory, size_t directory_size,
+                            uint32_t answer, uint8_t *text, size_t text_size);
+
+/* Requests reading as a whole, with no path. Arguments as for permissions_check_all.
+ * Result: see the functions below; refusals 1 to 3. */
+int32_t permissions_request_all(uint8_t *memory, size_t memory_size,
+                                uint32_t answer, uint8_t *text, size_t text_size);
+
+/* The result of a check or request that is not refused: bits 0 to 3 are a state, 0
+ * if a check passes, else the one that it fails with; bit 4 is set if the operator
+ * was asked; the bits above are the text's size. */
+
+/* Whether a check passes; a refused one does not. */
+static inline int permissions_passes(int32_t result)
+{
+    return result >= 0 && result % 16 == 0;
+}
+
+/* The state that a check fails with or a request returns, enum permissions_state;
+ * a refusal stays as it is. */
+static inline int32_t permissions_state_of(int32_t result)
+{
+    return result < 0 ? result : result % 16;
+}
+
+/* Whether the operator was asked. */
+static inline int permissions_asked(int32_t result)
+{
+    return result >= 0 && result / 16 % 2 == 1;
+}
+
+/* The size of the text that was written, 0 if none was. */
+static inline size_t permissions_text_size(int32_t result)
+{
+    return result < 0 ? 0u : (size_t)(result / 32);
+}
 
 #ifdef __cplusplus
 }

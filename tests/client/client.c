@@ -43,6 +43,45 @@ static void ask(uint32_t mode, const char *path, const char *directory)
                                  bytes(directory), strlen(directory)));
 }
 
+static void show_asked_and_text(int32_t result, const uint8_t *text)
+{
+    if (permissions_asked(result))
+        printf(", asked");
+    if (permissions_text_size(result) > 0)
+        printf(", text: %.*s", (int)permissions_text_size(result), (const char *)text);
+    printf("\n");
+}
+
+static void check(const char *path, const char *directory, uint32_t answer)
+{
+    static uint8_t text[PERMISSIONS_TEXT_BYTES];
+    int32_t result = permissions_check(table, sizeof table, bytes(path), strlen(path),
+                                       bytes(directory), strlen(directory), answer, text, sizeof text);
+
+    printf("check %s in %s, answer %u: ", path, directory, (unsigned)answer);
+    if (result < 0)
+        printf("refused %d", (int)-result);
+    else if (permissions_passes(result))
+        printf("passes");
+    else
+        printf("fails with %s", state_name(permissions_state_of(result)));
+    show_asked_and_text(result, text);
+}
+
+static void request(const char *path, const char *directory, uint32_t answer)
+{
+    static uint8_t text[PERMISSIONS_TEXT_BYTES];
+    int32_t result = permissions_request(table, sizeof table, bytes(path), strlen(path),
+                                         bytes(directory), strlen(directory), answer, text, sizeof text);
+
+    printf("request %s in %s, answer %u: ", path, directory, (unsigned)answer);
+    if (result < 0)
+        printf("refused %d", (int)-result);
+    else
+        printf("%s", state_name(permissions_state_of(result)));
+    show_asked_and_text(result, text);
+}
+
 static void the_same_entries_in_two_sequences(void)
 {
     puts("-- D /z, G /c, G /z/b");
@@ -96,6 +135,59 @@ static void refusals(void)
     show("memory that holds no table", permissions_query_all(table, sizeof table, 0));
 }
 
+static void checks(void)
+{
+    static uint8_t before[sizeof table];
+    static uint8_t text[PERMISSIONS_TEXT_BYTES + 1];
+    int32_t result;
+
+    puts("-- checks");
+    permissions_fresh(table, sizeof table);
+    check("runhours", "/var/log", PERMISSIONS_ALLOW); /* nobody may be asked */
+    permissions_switches(table, sizeof table, PERMISSIONS_SWITCH_PROMPT);
+    check("runhours", "/var/log", PERMISSIONS_ALLOW);
+    check("runhours", "/var/log", PERMISSIONS_DENY); /* granted by now */
+    check("/etc//set/../points", "/", PERMISSIONS_DENY);
+    check("/etc/points", "/", PERMISSIONS_ALLOW); /* denied by now */
+    check("<in>", "/", PERMISSIONS_DENY);
+
+    memcpy(before, table, sizeof table);
+    memset(text, '.', sizeof text);
+    check("/a", "/", 3);
+    check("", "/", PERMISSIONS_ALLOW);
+    show("text space one byte too small",
+         permissions_check_all(table, sizeof table, PERMISSIONS_ALLOW, text, PERMISSIONS_TEXT_BYTES - 1));
+    puts(memcmp(before, table, sizeof table) == 0 && text[0] == '.' ? "nothing is changed" : "something has changed");
+
+    /* a path that was denied once denies reading as a whole */
+    result = permissions_check_all(table, sizeof table, PERMISSIONS_ALLOW, text, sizeof text);
+    printf("check with no path: fails with %s, text: %.*s\n", state_name(permissions_state_of(result)),
+           (int)permissions_text_size(result), (const char *)text);
+    puts(text[permissions_text_size(result)] == '.' ? "behind the text nothing is written" : "the text is followed by more");
+    permissions_fresh(table, sizeof table);
+    permissions_switches(table, sizeof table, PERMISSIONS_SWITCH_PROMPT);
+    result = permissions_check_all(table, sizeof table, PERMISSIONS_ALLOW_ALL, text, sizeof text);
+    printf("check with no path, answer 2: %s%s\n", permissions_passes(result) ? "passes" : "fails",
+           permissions_asked(result) ? ", asked" : "");
+    check("/etc/points", "/", PERMISSIONS_DENY); /* nobody is asked any more */
+}
+
+static void requests(void)
+{
+    static uint8_t text[PERMISSIONS_TEXT_BYTES];
+
+    puts("-- requests");
+    permissions_fresh(table, sizeof table);
+    request("points", "/etc", PERMISSIONS_ALLOW); /* nobody may be asked */
+    permissions_switches(table, sizeof table, PERMISSIONS_SWITCH_PROMPT);
+    request("points", "/etc", PERMISSIONS_ALLOW);
+    request("/etc/points/3", "/", PERMISSIONS_DENY); /* granted by now */
+    request("points", "etc", PERMISSIONS_ALLOW);
+    printf("request with no path, answer 0: %s\n",
+           state_name(permissions_state_of(permissions_request_all(table, sizeof table, PERMISSIONS_DENY, text, sizeof text))));
+    ask(PERMISSIONS_MODE_PARTIAL, "/etc/points", "/");
+}
+
 static void a_full_table(void)
 {
     char path[16];
@@ -109,6 +201,9 @@ static void a_full_table(void)
     }
     ask(PERMISSIONS_MODE_PARTIAL, "/entry255", "/");
     ask(PERMISSIONS_MODE_PARTIAL, "/entry256", "/");
+    permissions_switches(table, sizeof table, PERMISSIONS_SWITCH_PROMPT);
+    check("/entry256", "/", PERMISSIONS_ALLOW);
+    check("/entry255", "/", PERMISSIONS_ALLOW);
 }
 
 int main(void)
@@ -116,6 +211,8 @@ int main(void)
     the_same_entries_in_two_sequences();
     partial_and_switches();
     refusals();
+    checks();
+    requests();
     a_full_table();
     return 0;
 }

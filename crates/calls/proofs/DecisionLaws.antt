@@ -1,21 +1,33 @@
--- Laws of what check and request decide: by the state of what is asked about, and that a check which passes without a walk passes with one.
+-- Laws of what check and request decide: by the state of what is asked about, that a check which passes without a walk passes with one, and
+-- that none fails with Granted.
 use Prim.Native.Nat.{ℕ, _+_}
 use mathlib.Core.Path.{_≡_}
 use mathlib.Core.List.{List}
-use mathlib.Core.Bool.{true, false}
+use mathlib.Core.Bool.{Bool, true, false, cond}
+use native.Mathlib.Omega.{arith}
 use Rattle.walk.specs.declared.PermissionState.{PermissionState}
-use Rattle.walk.specs.declared.PermissionState.the-variants.{Prompt, Denied}
+use Rattle.walk.specs.declared.PermissionState.the-variants.{
+  Granted,
+  GrantedPartial,
+  Prompt,
+  Denied,
+  DeniedPartial,
+  Ignored,
+}
 use Rattle.walk.specs.declared.AllowPartial.{AllowPartial}
 use Rattle.walk.specs.declared.AllowPartial.the-variants.{TreatAsPartialGranted}
 use Rattle.walk.specs.Walk.{Query, queryDesc, isAllowAll}
 use Rattle.walk.proofs.WalkLaws.{allow-all-granted}
 use Rattle.table.specs.Tables.{Table, has, setBit, prompt, isTable}
 use Rattle.calls.specs.declared.PromptResponse.{PromptResponse}
+use Rattle.calls.specs.declared.PromptResponse.the-variants.{Deny, Allow, AllowAll}
+use Rattle.calls.specs.declared.Verdict.the-variants.{Passed, Failed}
 use Rattle.calls.specs.declared.CheckDecided.{CheckDecided}
 use Rattle.calls.specs.declared.RequestDecided.{RequestDecided}
 use Rattle.calls.specs.Decisions.{
   CheckDecision,
   checkMode,
+  verdictBy,
   passes,
   fails,
   checkAsks,
@@ -100,3 +112,36 @@ pub check-without-walk : (t : Table) (q : Query) (response : PromptResponse) →
     → checkDesc t q response ≡ checkBy t q response (queryDesc t (checkMode q) q)
 unfolding checkDesc checkBy
 check-without-walk t q response a v = rw (a, allow-all-granted t a v (checkMode q) q)
+
+-- ---- a check never fails with Granted
+
+asked-not-granted : (response : PromptResponse) → verdictBy response ≡ Failed Granted → ⊥
+unfolding verdictBy
+asked-not-granted Deny e = let z : _≡_ {A = ℕ} 0 1 = cc in omega arith
+asked-not-granted Allow e = let z : _≡_ {A = ℕ} 0 1 = cc in omega arith
+asked-not-granted AllowAll e = let z : _≡_ {A = ℕ} 0 1 = cc in omega arith
+
+module _ (t : Table) (q : Query) where
+  prompt-not-granted : (b : Bool) (response : PromptResponse) → cond b (checkAsks t q response) (fails Prompt) .verdict ≡ Failed Granted → ⊥
+  unfolding checkAsks fails
+  prompt-not-granted true response e = asked-not-granted response e
+  prompt-not-granted false response e = let z : _≡_ {A = ℕ} 0 1 = cc in omega arith
+
+  state-not-granted : (state : PermissionState) (response : PromptResponse) → checkBy t q response state .verdict ≡ Failed Granted → ⊥
+  unfolding checkBy passes fails
+  state-not-granted Granted response e = let z : _≡_ {A = ℕ} 0 1 = cc in omega arith
+  state-not-granted GrantedPartial response e = let z : _≡_ {A = ℕ} 0 1 = cc in omega arith
+  state-not-granted Prompt response e = prompt-not-granted (has (t .switches) prompt) response e
+  state-not-granted Denied response e = let z : _≡_ {A = ℕ} 0 1 = cc in omega arith
+  state-not-granted DeniedPartial response e = let z : _≡_ {A = ℕ} 0 1 = cc in omega arith
+  state-not-granted Ignored response e = let z : _≡_ {A = ℕ} 0 1 = cc in omega arith
+
+  walked-not-granted : (b : Bool) (state : PermissionState) (response : PromptResponse)
+      → cond b passes (checkBy t q response state) .verdict ≡ Failed Granted → ⊥
+  unfolding passes
+  walked-not-granted true state response e = let z : _≡_ {A = ℕ} 0 1 = cc in omega arith
+  walked-not-granted false state response e = state-not-granted state response e
+
+  pub check-not-granted : (response : PromptResponse) → checkDesc t q response .verdict ≡ Failed Granted → ⊥
+  unfolding checkDesc
+  check-not-granted response e = walked-not-granted (isAllowAll t) _ response e

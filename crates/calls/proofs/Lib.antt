@@ -4,4 +4,5 @@ pub mod FittingLaws
 pub mod TextLaws
 pub mod AskLaws
 pub mod FinishLaws
+pub mod ShortLaws
 pub mod RevokedLaws

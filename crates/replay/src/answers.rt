@@ -13,7 +13,7 @@ use walk::PermissionState;
 ghost use Prim.Native.Nat.{_<_};
 
 // Writes the waiting bytes.
-pub fn write_out(out: &Output, waiting: usize) {
+pub(crate) fn write_out(out: &Output, waiting: usize) {
     let all = &out[..];
     if waiting < all.len() {
         io::write_all(1, &all[0..waiting]);
@@ -79,21 +79,71 @@ fn put_escaped(out: &mut Output, waiting: usize, bytes: &[u8]) -> usize {
     now
 }
 
-fn put_refusal(out: &mut Output, waiting: usize, cause: Refusal) -> usize {
+fn put_refused(out: &mut Output, waiting: usize, cause: Refusal) -> usize {
     let word = put(out, waiting, b"refused ");
-    let number = put_number(out, word, refusals::refusal_number(cause) as u64);
+    put_number(out, word, refusals::refusal_number(cause) as u64)
+}
+
+fn put_refusal(out: &mut Output, waiting: usize, cause: Refusal) -> usize {
+    let number = put_refused(out, waiting, cause);
     put_byte(out, number, b'\n')
+}
+
+// A child call that was refused.
+fn put_child_refusal(out: &mut Output, waiting: usize, cause: Refusal, asked: usize) -> usize {
+    let number = put_refused(out, waiting, cause);
+    put_asked(out, number, asked)
 }
 
 fn put_state(out: &mut Output, waiting: usize, state: PermissionState) -> usize {
     match state {
-        PermissionState::Granted => put(out, waiting, b"Granted\n"),
-        PermissionState::GrantedPartial => put(out, waiting, b"GrantedPartial\n"),
-        PermissionState::Prompt => put(out, waiting, b"Prompt\n"),
-        PermissionState::Denied => put(out, waiting, b"Denied\n"),
-        PermissionState::DeniedPartial => put(out, waiting, b"DeniedPartial\n"),
-        PermissionState::Ignored => put(out, waiting, b"Ignored\n"),
+        PermissionState::Granted => put(out, waiting, b"Granted"),
+        PermissionState::GrantedPartial => put(out, waiting, b"GrantedPartial"),
+        PermissionState::Prompt => put(out, waiting, b"Prompt"),
+        PermissionState::Denied => put(out, waiting, b"Denied"),
+        PermissionState::DeniedPartial => put(out, waiting, b"DeniedPartial"),
+        PermissionState::Ignored => put(out, waiting, b"Ignored"),
     }
+}
+
+fn put_state_line(out: &mut Output, waiting: usize, state: PermissionState) -> usize {
+    let name = put_state(out, waiting, state);
+    put_byte(out, name, b'\n')
+}
+
+// How often the operator was asked, which ends its line.
+fn put_asked(out: &mut Output, waiting: usize, asked: usize) -> usize {
+    let word = put(out, waiting, b" asked ");
+    let number = put_number(out, word, asked as u64);
+    put_byte(out, number, b'\n')
+}
+
+fn times(asked: bool) -> usize {
+    if asked { 1 } else { 0 }
+}
+
+// Whether the operator was asked, and the line of the text, if one of `size` bytes was written.
+fn put_told(out: &mut Output, waiting: usize, asked: bool, size: usize, space: &[u8]) -> usize {
+    let now = put_asked(out, waiting, times(asked));
+    if size == 0 {
+        return now;
+    }
+    if size > space.len() {
+        return now;
+    }
+    let word = put(out, now, b"text ");
+    let text = put_escaped(out, word, &space[0..size]);
+    put_byte(out, text, b'\n')
+}
+
+fn put_failed(out: &mut Output, waiting: usize, state: PermissionState) -> usize {
+    let word = put(out, waiting, b"failed ");
+    put_state(out, word, state)
+}
+
+fn put_child(out: &mut Output, waiting: usize, asked: usize) -> usize {
+    let word = put(out, waiting, b"child");
+    put_asked(out, word, asked)
 }
 
 fn put_bad_line(out: &mut Output, waiting: usize, line: u64) -> usize {
@@ -146,12 +196,35 @@ fn put_table(out: &mut Output, waiting: usize, mem: &[u8]) -> usize {
 }
 
 // The answer to the line of a number.
-pub fn put_reply(out: &mut Output, waiting: usize, reply: Reply, mem: &[u8], line: u64) -> usize {
+pub(crate) fn put_reply(
+    out: &mut Output,
+    waiting: usize,
+    reply: Reply,
+    mem: &[u8],
+    child: &[u8],
+    text: &[u8],
+    line: u64,
+) -> usize {
     match reply {
         Reply::Done => put(out, waiting, b"ok\n"),
         Reply::Refused(cause) => put_refusal(out, waiting, cause),
-        Reply::State(state) => put_state(out, waiting, state),
+        Reply::State(state) => put_state_line(out, waiting, state),
+        Reply::Passed(asked, size) => {
+            let word = put(out, waiting, b"passed");
+            put_told(out, word, asked, size, text)
+        }
+        Reply::Failed(state, asked, size) => {
+            let name = put_failed(out, waiting, state);
+            put_told(out, name, asked, size, text)
+        }
+        Reply::Requested(state, asked, size) => {
+            let name = put_state(out, waiting, state);
+            put_told(out, name, asked, size, text)
+        }
+        Reply::Child(asked) => put_child(out, waiting, asked),
+        Reply::ChildRefused(cause, asked) => put_child_refusal(out, waiting, cause, asked),
         Reply::Table => put_table(out, waiting, mem),
+        Reply::ChildTable => put_table(out, waiting, child),
         Reply::Bad => put_bad_line(out, waiting, line),
     }
 }

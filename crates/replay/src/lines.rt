@@ -4,10 +4,13 @@ use crate::Output;
 use crate::Progress;
 use crate::Reply;
 use crate::answers;
-use crate::calls;
+use crate::calling;
 use crate::words;
 ghost use Prim.Native.Nat.{_≤_};
 ghost use lib.ListN.{length};
+
+// Room for the text of a question.
+const TEXT_BYTES: usize = 1041;
 
 // What is left of a stretch, and how far the run has come.
 struct Rest {
@@ -28,9 +31,16 @@ fn is_skipped(line: &[u8]) -> bool {
 }
 
 // Puts the answer to a line, which is the next of the input.
-fn finish_line(out: &mut Output, progress: Progress, reply: Reply, mem: &[u8]) -> Progress {
+fn finish_line(
+    out: &mut Output,
+    progress: Progress,
+    reply: Reply,
+    mem: &[u8],
+    child: &[u8],
+    text: &[u8],
+) -> Progress {
     let lines = std::num::wrapping_add_u64(progress.lines, 1);
-    let waiting = answers::put_reply(out, progress.waiting, reply, mem, lines);
+    let waiting = answers::put_reply(out, progress.waiting, reply, mem, child, text, lines);
     Progress {
         waiting,
         lines,
@@ -39,7 +49,13 @@ fn finish_line(out: &mut Output, progress: Progress, reply: Reply, mem: &[u8]) -
 }
 
 // Answers a line, the next of the input.
-fn take_line(mem: &mut [u8], line: &mut [u8], out: &mut Output, progress: Progress) -> Progress {
+fn take_line(
+    mem: &mut [u8],
+    child: &mut [u8],
+    line: &mut [u8],
+    out: &mut Output,
+    progress: Progress,
+) -> Progress {
     if is_skipped(line) {
         let lines = std::num::wrapping_add_u64(progress.lines, 1);
         return Progress {
@@ -48,12 +64,19 @@ fn take_line(mem: &mut [u8], line: &mut [u8], out: &mut Output, progress: Progre
             is_over: false,
         };
     }
-    let reply = calls::call(mem, line);
-    finish_line(out, progress, reply, mem)
+    let mut text = [0u8; TEXT_BYTES];
+    let reply = calling::call(mem, child, &mut text, line);
+    finish_line(out, progress, reply, mem, child, &text)
 }
 
 // Answers every whole line of a stretch.
-fn take_lines(mem: &mut [u8], input: &mut [u8], out: &mut Output, progress: Progress) -> Rest
+fn take_lines(
+    mem: &mut [u8],
+    child: &mut [u8],
+    input: &mut [u8],
+    out: &mut Output,
+    progress: Progress,
+) -> Rest
     ensures { λ r. ⌜ r .start ≤ length (now (input .entry)) ⌝ }
 {
     let mut now = progress;
@@ -66,7 +89,7 @@ fn take_lines(mem: &mut [u8], input: &mut [u8], out: &mut Output, progress: Prog
                 progress: now,
             };
         }
-        now = take_line(mem, &mut input[start..end], out, now);
+        now = take_line(mem, child, &mut input[start..end], out, now);
         start = end + 1;
     }
     Rest {
@@ -89,6 +112,7 @@ fn read_more(input: &mut [u8], filled: usize) -> usize
 // Answers the last line, which no line end follows. One that fills the array may be longer than that, and is bad.
 fn take_last(
     mem: &mut [u8],
+    child: &mut [u8],
     input: &mut [u8],
     filled: usize,
     out: &mut Output,
@@ -96,17 +120,17 @@ fn take_last(
 ) -> usize
     requires { ⌜ filled ≤ length (now input) ⌝ }
 {
-    let after = if filled == input.len() {
-        finish_line(out, progress, Reply::Bad, mem)
-    } else {
-        take_line(mem, &mut input[0..filled], out, progress)
-    };
+    if filled == input.len() {
+        let bad = finish_line(out, progress, Reply::Bad, mem, child, b"");
+        return bad.waiting;
+    }
+    let after = take_line(mem, child, &mut input[0..filled], out, progress);
     after.waiting
 }
 
 // Answers the whole input, and tells how many bytes of output then wait. A proved loop has to end, and nothing says that the input
 // does, so the turns are counted down, from a number that no run uses up.
-pub fn run(mem: &mut [u8], input: &mut [u8], out: &mut Output) -> usize {
+pub(crate) fn run(mem: &mut [u8], child: &mut [u8], input: &mut [u8], out: &mut Output) -> usize {
     let mut now = Progress {
         waiting: 0,
         lines: 0,
@@ -117,9 +141,9 @@ pub fn run(mem: &mut [u8], input: &mut [u8], out: &mut Output) -> usize {
     while turns > 0 {
         let end = read_more(input, filled);
         if end == filled {
-            return take_last(mem, input, filled, out, now);
+            return take_last(mem, child, input, filled, out, now);
         }
-        let rest = take_lines(mem, &mut input[0..end], out, now);
+        let rest = take_lines(mem, child, &mut input[0..end], out, now);
         now = rest.progress;
         if now.is_over {
             return now.waiting;

@@ -1,4 +1,5 @@
-// Reads a call script from standard input and writes the answer to each call, on one table. A malformed line is answered by `bad line N`,
+// Reads a call script from standard input and writes the answer to each call, on one table and
+// the table of the last child. A malformed line is answered by `bad line N`,
 // which ends the run, and so is a line of 1,048,576 bytes or more: the input goes through an array of that length. It knows the calls of
 // `Name`.
 use refusals::Refusal;
@@ -8,7 +9,7 @@ ghost use mathlib.Core.Path.{_≡_};
 ghost use lib.ListN.{length};
 
 mod answers;
-mod calls;
+mod calling;
 mod lines;
 mod words;
 
@@ -52,6 +53,19 @@ pub enum GivenRead {
     Bad,
 }
 
+// How many of the numbers were kept, and where the word after them begins.
+pub enum NumbersRead {
+    Numbers(usize, usize),
+    Bad,
+}
+
+// The items of a child call, their bytes brought together: where these lie, how many end positions were kept, and where the word after the
+// items begins.
+pub enum ItemsRead {
+    Items(usize, usize, usize, usize),
+    Bad,
+}
+
 // A byte of a byte string, with where the next one begins.
 pub enum ByteRead {
     Byte(u8, usize),
@@ -64,17 +78,28 @@ pub enum Name {
     Insert,
     Switches,
     Query,
+    Check,
+    Request,
     Revoke,
+    Child,
     List,
+    ChildList,
     Unknown,
 }
 
-// What a line is answered: that the call was done, why it was refused, a state, the table as it stands, or that the line is malformed.
+// What a line is answered. With an answer that the operator may have been asked for stands whether that is so, and the length of the text,
+// 0 where none was written; with a child call's, how often the operator was asked.
 pub enum Reply {
     Done,
     Refused(Refusal),
     State(PermissionState),
+    Passed(bool, usize),
+    Failed(PermissionState, bool, usize),
+    Requested(PermissionState, bool, usize),
+    Child(usize),
+    ChildRefused(Refusal, usize),
     Table,
+    ChildTable,
     Bad,
 }
 
@@ -94,9 +119,11 @@ fn input_space() -> [u8; INPUT_BYTES]
 
 fn main() {
     let mut mem = [0u8; TABLE_BYTES];
+    let mut child = [0u8; TABLE_BYTES];
     let mut input = input_space();
     let mut out = [0u8; OUTPUT_BYTES];
     table::acting::make_fresh(&mut mem);
-    let waiting = lines::run(&mut mem, &mut input, &mut out);
+    table::acting::make_fresh(&mut child);
+    let waiting = lines::run(&mut mem, &mut child, &mut input, &mut out);
     answers::write_out(&out, waiting);
 }

@@ -3,15 +3,17 @@
 use crate::ByteRead;
 use crate::BytesRead;
 use crate::GivenRead;
+use crate::ItemsRead;
 use crate::NumberRead;
+use crate::NumbersRead;
 use crate::PathRead;
 use walk::Descriptor;
 ghost use Prim.Native.Nat.{_<_, _≤_};
 ghost use lib.ListN.{length};
-ghost use Rattle.replay.specs.Words.{ByteWithin, BytesWithin, PathWithin, GivenWithin};
+ghost use Rattle.replay.specs.Words.{ByteWithin, BytesWithin, PathWithin, GivenWithin, NumbersWithin, ItemsWithin};
 
 // Where the next such byte stands from a place of the text on; the text's end, where none does.
-pub fn find(text: &[u8], at: usize, byte: u8) -> usize
+pub(crate) fn find(text: &[u8], at: usize, byte: u8) -> usize
     requires { ⌜ at ≤ length (now text) ⌝ }
     ensures { λ r. ⌜ (at ≤ r) × (r ≤ length (now (text .entry))) ⌝ }
 {
@@ -49,7 +51,7 @@ fn number_in(line: &[u8], start: usize, end: usize) -> NumberRead
 }
 
 // The word at a place of the line as a number.
-pub fn number(line: &[u8], at: usize) -> NumberRead {
+pub(crate) fn number(line: &[u8], at: usize) -> NumberRead {
     if at >= line.len() {
         return NumberRead::Bad;
     }
@@ -106,13 +108,13 @@ fn byte_at(line: &[u8], at: usize, end: usize) -> ByteRead
     ByteRead::Byte(byte, at + 1)
 }
 
-// Decodes a part of the line where it stands.
-fn decode(line: &mut [u8], start: usize, end: usize) -> BytesRead
-    requires { ⌜ (start ≤ end) × (end ≤ length (now line)) ⌝ }
-    ensures { λ r. ⌜ BytesWithin r (length (now (line .entry))) ⌝ }
+// Decodes a part of the line to a place at or before it.
+fn decode(line: &mut [u8], start: usize, end: usize, place: usize) -> BytesRead
+    requires { ⌜ (place ≤ start) × (start ≤ end) × (end ≤ length (now line)) ⌝ }
+    ensures { λ r. ⌜ BytesWithin r place (length (now (line .entry))) ⌝ }
 {
     let mut at = start;
-    let mut to = start;
+    let mut to = place;
     while at < end {
         let ByteRead::Byte(byte, next) = byte_at(line, at, end) else {
             return BytesRead::Bad;
@@ -121,12 +123,13 @@ fn decode(line: &mut [u8], start: usize, end: usize) -> BytesRead
         to += 1;
         at = next;
     }
-    BytesRead::Bytes(start, to, end + 1)
+    BytesRead::Bytes(place, to, end + 1)
 }
 
-// The word at a place of the line as a byte string.
-fn bytes(line: &mut [u8], at: usize) -> BytesRead
-    ensures { λ r. ⌜ BytesWithin r (length (now (line .entry))) ⌝ }
+// The word at a place of the line as a byte string, decoded to a place at or before it.
+fn bytes_to(line: &mut [u8], at: usize, place: usize) -> BytesRead
+    requires { ⌜ place ≤ at ⌝ }
+    ensures { λ r. ⌜ BytesWithin r place (length (now (line .entry))) ⌝ }
 {
     if at >= line.len() {
         return BytesRead::Bad;
@@ -135,7 +138,14 @@ fn bytes(line: &mut [u8], at: usize) -> BytesRead
         return BytesRead::Bad;
     }
     let end = find(line, at + 1, b' ');
-    decode(line, at + 1, end)
+    decode(line, at + 1, end, place)
+}
+
+// The word at a place of the line as a byte string.
+pub(crate) fn bytes(line: &mut [u8], at: usize) -> BytesRead
+    ensures { λ r. ⌜ BytesWithin r at (length (now (line .entry))) ⌝ }
+{
+    bytes_to(line, at, at)
 }
 
 // Whether the word at a place of the line is `-`.
@@ -165,7 +175,7 @@ fn path(line: &mut [u8], at: usize) -> PathRead
 }
 
 // The word at a place of the line as a path or `-`, and the word after it as a working directory.
-pub fn given(line: &mut [u8], at: usize) -> GivenRead
+pub(crate) fn given(line: &mut [u8], at: usize) -> GivenRead
     ensures { λ r. ⌜ GivenWithin r (length (now (line .entry))) ⌝ }
 {
     let PathRead::Path(d, path, path_end, cwd_at) = path(line, at) else {
@@ -182,4 +192,54 @@ pub fn given(line: &mut [u8], at: usize) -> GivenRead
         cwd_end,
         next,
     }
+}
+
+// As many numbers as the count says, from a place of the line on. They are kept as far as there is room.
+pub(crate) fn numbers(line: &[u8], at: usize, count: u32, kept: &mut [u32]) -> NumbersRead
+    ensures { λ r. ⌜ NumbersWithin r (length (now (kept .entry))) ⌝ }
+{
+    let mut next = at;
+    let mut n: usize = 0;
+    let mut left = count;
+    while left > 0 {
+        let NumberRead::Number(value, after) = number(line, next) else {
+            return NumbersRead::Bad;
+        };
+        next = after;
+        left -= 1;
+        if n < kept.len() {
+            kept[n] = value;
+            n += 1;
+        }
+    }
+    NumbersRead::Numbers(n, next)
+}
+
+// As many byte strings as the count says, from a place of the line on, brought together one after the other. Their end positions are kept as
+// far as there is room.
+pub(crate) fn items(line: &mut [u8], at: usize, count: u32, ends: &mut [u32]) -> ItemsRead
+    ensures { λ r. ⌜ ItemsWithin r (length (now (line .entry))) (length (now (ends .entry))) ⌝ }
+{
+    let start = if at < line.len() { at } else { line.len() };
+    let mut to = start;
+    let mut next = at;
+    let mut n: usize = 0;
+    let mut left = count;
+    while left > 0 {
+        let BytesRead::Bytes(_, end, after) = bytes_to(line, next, to) else {
+            return ItemsRead::Bad;
+        };
+        let size = end - start;
+        if size > 4294967295 {
+            return ItemsRead::Bad;
+        }
+        to = end;
+        next = after;
+        left -= 1;
+        if n < ends.len() {
+            ends[n] = size as u32;
+            n += 1;
+        }
+    }
+    ItemsRead::Items(start, to, n, next)
 }

@@ -108,31 +108,31 @@ fn act(mem: &mut [u8], call: Call, path: &[u8]) {
     answer(mem, call, path, b"/");
 }
 
-pub fn make_fresh(mem: &mut [u8]) {
+pub(crate) fn make_fresh(mem: &mut [u8]) {
     act(mem, Call::Fresh, b"");
 }
 
-pub fn insert(mem: &mut [u8], kind: u32, path: &[u8]) {
+pub(crate) fn insert(mem: &mut [u8], kind: u32, path: &[u8]) {
     act(mem, Call::Insert(kind), path);
 }
 
 // An insert with a working directory.
-pub fn insert_from(mem: &mut [u8], kind: u32, path: &[u8], cwd: &[u8]) {
+pub(crate) fn insert_from(mem: &mut [u8], kind: u32, path: &[u8], cwd: &[u8]) {
     say_call(Call::Insert(kind), path);
     say(b" from ");
     say_path(cwd);
     answer(mem, Call::Insert(kind), path, cwd);
 }
 
-pub fn set_switches(mem: &mut [u8], switches: u32) {
+pub(crate) fn set_switches(mem: &mut [u8], switches: u32) {
     act(mem, Call::Switches(switches), b"");
 }
 
-pub fn revoke(mem: &mut [u8], path: &[u8]) {
+pub(crate) fn revoke(mem: &mut [u8], path: &[u8]) {
     act(mem, Call::Revoke, path);
 }
 
-pub fn revoke_all(mem: &mut [u8]) {
+pub(crate) fn revoke_all(mem: &mut [u8]) {
     act(mem, Call::RevokeAll, b"");
 }
 
@@ -169,7 +169,7 @@ fn insert_word(mem: &mut [u8], word: &[u8]) {
     }
 }
 
-pub fn insert_all(mem: &mut [u8], entries: &[u8]) {
+pub(crate) fn insert_all(mem: &mut [u8], entries: &[u8]) {
     let mut at: usize = 0;
     while at < entries.len() {
         let end = word_end(entries, at);
@@ -182,7 +182,7 @@ pub fn insert_all(mem: &mut [u8], entries: &[u8]) {
 }
 
 // A headline, and a fresh table with entries.
-pub fn begin(mem: &mut [u8], title: &[u8], entries: &[u8]) {
+pub(crate) fn begin(mem: &mut [u8], title: &[u8], entries: &[u8]) {
     say(b"-- ");
     say(title);
     say(b"\n");
@@ -192,7 +192,7 @@ pub fn begin(mem: &mut [u8], title: &[u8], entries: &[u8]) {
 
 // ---- queries
 
-pub fn query(mem: &[u8], mode: u32, path: &[u8]) {
+pub(crate) fn query(mem: &[u8], mode: u32, path: &[u8]) {
     say(b"query ");
     say_path(path);
     say_mode(mode);
@@ -201,7 +201,7 @@ pub fn query(mem: &[u8], mode: u32, path: &[u8]) {
     say(b"\n");
 }
 
-pub fn query_no_path(mem: &[u8], mode: u32) {
+pub(crate) fn query_no_path(mem: &[u8], mode: u32) {
     say(b"query with no path");
     say_mode(mode);
     say(b": ");

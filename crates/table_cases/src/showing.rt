@@ -12,12 +12,12 @@ ghost use Rattle.table.specs.Memory.{nextAt, holds};
 
 // ---- words
 
-pub fn say(text: &[u8]) {
+pub(crate) fn say(text: &[u8]) {
     io::write_all(1, text);
 }
 
 // A number with its name.
-pub fn say_named(name: &[u8], n: u64) {
+pub(crate) fn say_named(name: &[u8], n: u64) {
     say(name);
     io::print_decimal(1, n);
 }
@@ -27,7 +27,7 @@ fn wide(byte: u8) -> u32 {
 }
 
 // A path; of one too long for a line, how many bytes it has.
-pub fn say_path(path: &[u8]) {
+pub(crate) fn say_path(path: &[u8]) {
     if path.len() == 0 {
         say(b"an empty path");
     } else if path.len() <= 40 {
@@ -39,7 +39,7 @@ pub fn say_path(path: &[u8]) {
 }
 
 // The kind that a number names, or the number.
-pub fn say_kind(kind: u32) {
+pub(crate) fn say_kind(kind: u32) {
     match kind {
         0 => say(b"G "),
         1 => say(b"D "),
@@ -53,7 +53,7 @@ pub fn say_kind(kind: u32) {
 }
 
 // A mode; partial, which most queries have, goes without saying.
-pub fn say_mode(mode: u32) {
+pub(crate) fn say_mode(mode: u32) {
     match mode {
         0 => say(b" in mode denied"),
         1 => say(b""),
@@ -64,7 +64,7 @@ pub fn say_mode(mode: u32) {
 
 // ---- answers
 
-pub fn say_refused(cause: Refusal) {
+pub(crate) fn say_refused(cause: Refusal) {
     say_named(b"refused ", refusals::refusal_number(cause) as u64);
 }
 
@@ -79,7 +79,7 @@ fn say_state(state: PermissionState) {
     }
 }
 
-pub fn say_answer(answer: Answer) {
+pub(crate) fn say_answer(answer: Answer) {
     match answer {
         Answer::State(state) => say_state(state),
         Answer::Refused(cause) => say_refused(cause),
@@ -137,7 +137,7 @@ fn show_sums(mem: &[u8])
 }
 
 // The sums, and of a table that is not long the entries.
-pub fn show(mem: &[u8]) {
+pub(crate) fn show(mem: &[u8]) {
     if !holds_table(mem) {
         say(b"no table\n");
         return;

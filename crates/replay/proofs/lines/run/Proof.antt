@@ -7,10 +7,10 @@ use Rattle.replay.proofs.lines.run.Statement.{statement}
 use Rattle.replay.proofs.lines.run.Tie as tie
 
 abbrev Inv-loop : tie.InvT-loop
-Inv-loop mem₀ input₀ out₀ now₀ filled₀ turns₀ mem input out now filled turns = (filled ≤ length input) × (length input ≡ length input₀) × (length mem ≡ length mem₀)
+Inv-loop mem₀ child₀ input₀ out₀ now₀ filled₀ turns₀ mem child input out now filled turns = (filled ≤ length input) × (length input ≡ length input₀) × (length mem ≡ length mem₀) × (length child ≡ length child₀)
 
 abbrev μ-loop : tie.MeasureT-loop
-μ-loop mem₀ input₀ out₀ now₀ filled₀ turns₀ mem input out now filled turns = turns
+μ-loop mem₀ child₀ input₀ out₀ now₀ filled₀ turns₀ mem child input out now filled turns = turns
 
 loop-holds : tie.Need-loop-holds Inv-loop μ-loop
 loop-holds c = search needs
@@ -27,6 +27,9 @@ same-length c = search needs
 same-length-2 : tie.Need-same-length-2 Inv-loop μ-loop
 same-length-2 c = search needs
 
+same-length-3 : tie.Need-same-length-3 Inv-loop μ-loop
+same-length-3 c = search needs
+
 returns : tie.Need-returns Inv-loop μ-loop
 returns c = search needs
 
@@ -42,11 +45,14 @@ part-take-lines-end c = search needs
 take-lines-requires : tie.Need-take-lines-requires Inv-loop μ-loop
 take-lines-requires c κs = search needs
 
-same-length-3 : tie.Need-same-length-3 Inv-loop μ-loop
-same-length-3 c = search needs
-
 same-length-4 : tie.Need-same-length-4 Inv-loop μ-loop
 same-length-4 c = search needs
+
+same-length-5 : tie.Need-same-length-5 Inv-loop μ-loop
+same-length-5 c = search needs
+
+same-length-6 : tie.Need-same-length-6 Inv-loop μ-loop
+same-length-6 c = search needs
 
 returns-2 : tie.Need-returns-2 Inv-loop μ-loop
 returns-2 c = search needs
@@ -66,11 +72,14 @@ loop-less c = search needs
 loop-again : tie.Need-loop-again Inv-loop μ-loop
 loop-again c = search needs
 
-same-length-5 : tie.Need-same-length-5 Inv-loop μ-loop
-same-length-5 c = search needs
+same-length-7 : tie.Need-same-length-7 Inv-loop μ-loop
+same-length-7 c = search needs
 
-same-length-6 : tie.Need-same-length-6 Inv-loop μ-loop
-same-length-6 c = search needs
+same-length-8 : tie.Need-same-length-8 Inv-loop μ-loop
+same-length-8 c = search needs
+
+same-length-9 : tie.Need-same-length-9 Inv-loop μ-loop
+same-length-9 c = search needs
 
 returns-3 : tie.Need-returns-3 Inv-loop μ-loop
 returns-3 c = search needs
@@ -86,19 +95,22 @@ run-spec =
     take-last-requires
     same-length
     same-length-2
+    same-length-3
     returns
     sub-take-lines
     part-take-lines-start
     part-take-lines-end
     take-lines-requires
-    same-length-3
     same-length-4
+    same-length-5
+    same-length-6
     returns-2
     sub-filled
     move-down-requires
     sub-turns
     loop-less
     loop-again
-    same-length-5
-    same-length-6
+    same-length-7
+    same-length-8
+    same-length-9
     returns-3)

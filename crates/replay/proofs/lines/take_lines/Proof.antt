@@ -7,10 +7,10 @@ use Rattle.replay.proofs.lines.take_lines.Statement.{statement}
 use Rattle.replay.proofs.lines.take_lines.Tie as tie
 
 abbrev Inv-loop : tie.InvT-loop
-Inv-loop mem₀ input₀ out₀ now₀ start₀ mem input out now start = (start ≤ length input) × (length input ≡ length input₀) × (length mem ≡ length mem₀)
+Inv-loop mem₀ child₀ input₀ out₀ now₀ start₀ mem child input out now start = (start ≤ length input) × (length input ≡ length input₀) × (length mem ≡ length mem₀) × (length child ≡ length child₀)
 
 abbrev μ-loop : tie.MeasureT-loop
-μ-loop mem₀ input₀ out₀ now₀ start₀ mem input out now start = length input - start
+μ-loop mem₀ child₀ input₀ out₀ now₀ start₀ mem child input out now start = length input - start
 
 loop-holds : tie.Need-loop-holds Inv-loop μ-loop
 loop-holds c = search needs
@@ -23,6 +23,9 @@ same-length c = search needs
 
 same-length-2 : tie.Need-same-length-2 Inv-loop μ-loop
 same-length-2 c = search needs
+
+same-length-3 : tie.Need-same-length-3 Inv-loop μ-loop
+same-length-3 c = search needs
 
 returns : tie.Need-returns Inv-loop μ-loop
 returns c = search needs
@@ -48,11 +51,14 @@ loop-less c = search needs
 loop-again : tie.Need-loop-again Inv-loop μ-loop
 loop-again c = search needs
 
-same-length-3 : tie.Need-same-length-3 Inv-loop μ-loop
-same-length-3 c = search needs
-
 same-length-4 : tie.Need-same-length-4 Inv-loop μ-loop
 same-length-4 c = search needs
+
+same-length-5 : tie.Need-same-length-5 Inv-loop μ-loop
+same-length-5 c = search needs
+
+same-length-6 : tie.Need-same-length-6 Inv-loop μ-loop
+same-length-6 c = search needs
 
 returns-2 : tie.Need-returns-2 Inv-loop μ-loop
 returns-2 c = search needs
@@ -67,6 +73,7 @@ take-lines-spec =
     find-requires
     same-length
     same-length-2
+    same-length-3
     returns
     sub-take-line
     part-take-line-start
@@ -75,6 +82,7 @@ take-lines-spec =
     add-start
     loop-less
     loop-again
-    same-length-3
     same-length-4
+    same-length-5
+    same-length-6
     returns-2)

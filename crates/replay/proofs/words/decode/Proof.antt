@@ -1,4 +1,4 @@
--- `decode` meets its contract: a byte is written at or before the place where it was read, and each one read moves that place on.
+-- `decode` meets its contract: a byte is written at or before the place from which it was read, and each one read moves that place on.
 use borrow.Author.Needs.{needs}
 use native.Mathlib.Omega.{arith}
 use Prim.Native.Nat.{_≤_, _-_}
@@ -9,10 +9,10 @@ use Rattle.replay.proofs.words.decode.Statement.{statement}
 use Rattle.replay.proofs.words.decode.Tie as tie
 
 abbrev Inv-loop : tie.InvT-loop
-Inv-loop line₀ start end at₀ to₀ line at to = (start ≤ to) × (to ≤ at) × (at ≤ end) × (length line ≡ length line₀)
+Inv-loop line₀ start end place at₀ to₀ line at to = (place ≤ to) × (to ≤ at) × (at ≤ end) × (length line ≡ length line₀)
 
 abbrev μ-loop : tie.MeasureT-loop
-μ-loop line₀ start end at₀ to₀ line at to = end - at
+μ-loop line₀ start end place at₀ to₀ line at to = end - at
 
 loop-holds : tie.Need-loop-holds Inv-loop μ-loop
 loop-holds c = search needs
@@ -44,8 +44,8 @@ loop-less c = omega (arith, byte-within _ _ _ (c .before .byte .given .1) (c .be
 loop-again : tie.Need-loop-again Inv-loop μ-loop
 loop-again c = simp length-set (omega (arith, byte-within _ _ _ (c .before .byte .given .1) (c .before .before .before .byte-at .ensures)))
 
-add-t13 : tie.Need-add-t13 Inv-loop μ-loop
-add-t13 c = search needs
+add-t14 : tie.Need-add-t14 Inv-loop μ-loop
+add-t14 c = search needs
 
 same-length-2 : tie.Need-same-length-2 Inv-loop μ-loop
 same-length-2 c = search needs
@@ -69,6 +69,6 @@ decode-spec =
     add-to
     loop-less
     loop-again
-    add-t13
+    add-t14
     same-length-2
     returns-2)

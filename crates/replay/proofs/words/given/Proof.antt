@@ -39,7 +39,7 @@ same-length-3 : tie.Need-same-length-3
 same-length-3 c = search needs
 
 returns-3 : tie.Need-returns-3
-returns-3 c = omega (arith, path-within _ _ (c .before .before .before .before .before .before .before .before .d .given .1) (c .before .before .before .before .before .before .before .before .before .before .before .before .path .ensures), bytes-within _ _ (c .before .cwd .given .1) (c .before .before .before .before .before .bytes .ensures))
+returns-3 c = omega (arith, path-within _ _ (c .before .before .before .before .before .before .before .before .d .given .1) (c .before .before .before .before .before .before .before .before .before .before .before .before .path .ensures), bytes-within _ _ _ (c .before .cwd .given .1) (c .before .before .before .before .before .bytes .ensures))
 
 pub given-spec : {M : Type 1} → statement M
 given-spec =

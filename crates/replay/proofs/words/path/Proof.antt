@@ -33,7 +33,7 @@ same-length-2 : tie.Need-same-length-2
 same-length-2 c = search needs
 
 returns-3 : tie.Need-returns-3
-returns-3 c = omega (arith, bytes-within _ _ (c .before .start .given .1) (c .before .before .before .before .before .bytes .ensures))
+returns-3 c = omega (arith, bytes-within _ _ _ (c .before .start .given .1) (c .before .before .before .before .before .bytes .ensures))
 
 same-length-3 : tie.Need-same-length-3
 same-length-3 c = search needs

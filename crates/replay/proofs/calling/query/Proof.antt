@@ -1,9 +1,9 @@
 -- `query` is safe: what was read of the line lies within it.
+use borrow.Author.Needs.{needs}
 use native.Mathlib.Omega.{arith}
 use Rattle.replay.proofs.WordLaws.{given-within}
-use borrow.Author.Needs.{needs}
-use Rattle.replay.proofs.calls.query.Statement.{statement}
-use Rattle.replay.proofs.calls.query.Tie as tie
+use Rattle.replay.proofs.calling.query.Statement.{statement}
+use Rattle.replay.proofs.calling.query.Tie as tie
 
 number-requires : tie.Need-number-requires
 number-requires c κs = search needs
@@ -45,7 +45,7 @@ sub-query : tie.Need-sub-query
 sub-query c = omega (arith, given-within _ _ (c .before .before .before .d .given .1) (c .before .before .before .before .before .before .before .given .ensures))
 
 part-query-start : tie.Need-part-query-start
-part-query-start c = omega (arith, given-within _ _ (c .before .before .before .d .given .1) (c .before .before .before .before .before .before .before .given .ensures))
+part-query-start c = sub-query c
 
 part-query-end : tie.Need-part-query-end
 part-query-end c = omega (arith, given-within _ _ (c .before .before .before .d .given .1) (c .before .before .before .before .before .before .before .given .ensures))
@@ -54,7 +54,7 @@ sub-query-2 : tie.Need-sub-query-2
 sub-query-2 c = omega (arith, given-within _ _ (c .before .before .before .before .d .given .1) (c .before .before .before .before .before .before .before .before .given .ensures))
 
 part-query-start-2 : tie.Need-part-query-start-2
-part-query-start-2 c = omega (arith, given-within _ _ (c .before .before .before .before .d .given .1) (c .before .before .before .before .before .before .before .before .given .ensures))
+part-query-start-2 c = sub-query-2 c
 
 part-query-end-2 : tie.Need-part-query-end-2
 part-query-end-2 c = omega (arith, given-within _ _ (c .before .before .before .before .d .given .1) (c .before .before .before .before .before .before .before .before .given .ensures))

@@ -1,9 +1,9 @@
 -- `insert` is safe: what was read of the line lies within it.
+use borrow.Author.Needs.{needs}
 use native.Mathlib.Omega.{arith}
 use Rattle.replay.proofs.WordLaws.{given-within}
-use borrow.Author.Needs.{needs}
-use Rattle.replay.proofs.calls.insert.Statement.{statement}
-use Rattle.replay.proofs.calls.insert.Tie as tie
+use Rattle.replay.proofs.calling.insert.Statement.{statement}
+use Rattle.replay.proofs.calling.insert.Tie as tie
 
 number-requires : tie.Need-number-requires
 number-requires c κs = search needs
@@ -45,7 +45,7 @@ sub-insert-given : tie.Need-sub-insert-given
 sub-insert-given c = omega (arith, given-within _ _ (c .before .before .before .before .d .given .1) (c .before .before .before .before .before .before .before .before .given .ensures))
 
 part-insert-given-start : tie.Need-part-insert-given-start
-part-insert-given-start c = omega (arith, given-within _ _ (c .before .before .before .before .d .given .1) (c .before .before .before .before .before .before .before .before .given .ensures))
+part-insert-given-start c = sub-insert-given c
 
 part-insert-given-end : tie.Need-part-insert-given-end
 part-insert-given-end c = omega (arith, given-within _ _ (c .before .before .before .before .d .given .1) (c .before .before .before .before .before .before .before .before .given .ensures))
@@ -54,7 +54,7 @@ sub-insert-given-2 : tie.Need-sub-insert-given-2
 sub-insert-given-2 c = omega (arith, given-within _ _ (c .before .before .before .before .before .d .given .1) (c .before .before .before .before .before .before .before .before .before .given .ensures))
 
 part-insert-given-start-2 : tie.Need-part-insert-given-start-2
-part-insert-given-start-2 c = omega (arith, given-within _ _ (c .before .before .before .before .before .d .given .1) (c .before .before .before .before .before .before .before .before .before .given .ensures))
+part-insert-given-start-2 c = sub-insert-given-2 c
 
 part-insert-given-end-2 : tie.Need-part-insert-given-end-2
 part-insert-given-end-2 c = omega (arith, given-within _ _ (c .before .before .before .before .before .d .given .1) (c .before .before .before .before .before .before .before .before .before .given .ensures))

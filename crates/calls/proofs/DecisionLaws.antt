@@ -21,7 +21,7 @@ use Rattle.walk.proofs.WalkLaws.{allow-all-granted}
 use Rattle.table.specs.Tables.{Table, has, setBit, prompt, isTable}
 use Rattle.calls.specs.declared.PromptResponse.{PromptResponse}
 use Rattle.calls.specs.declared.PromptResponse.the-variants.{Deny, Allow, AllowAll}
-use Rattle.calls.specs.declared.Verdict.the-variants.{Passed, Failed}
+use Rattle.calls.specs.declared.Verdict.the-variants.{Failed}
 use Rattle.calls.specs.declared.CheckDecided.{CheckDecided}
 use Rattle.calls.specs.declared.RequestDecided.{RequestDecided}
 use Rattle.calls.specs.Decisions.{

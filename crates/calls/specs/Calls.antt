@@ -23,7 +23,6 @@ use Rattle.walk.specs.declared.Answer.{Answer}
 use Rattle.walk.specs.declared.Answer.the-variants as answer
 use Rattle.walk.specs.Walk.{Query, noPath, path, queryOf, queryDesc}
 use Rattle.walk.specs.Calls.{givenConditions, answerOf}
-use Rattle.calls.specs.declared.PromptResponse.{PromptResponse}
 use Rattle.calls.specs.declared.PromptResponse.the-variants.{Deny, Allow, AllowAll}
 use Rattle.calls.specs.declared.ResponseRead.{ResponseRead}
 use Rattle.calls.specs.declared.ResponseRead.the-variants as response-read
@@ -44,7 +43,6 @@ use Rattle.calls.specs.Decisions.{
   actOverflows,
   applied,
 }
-use Rattle.calls.specs.Texts.{textOf}
 
 -- ---- the operator's answer, as a number
 

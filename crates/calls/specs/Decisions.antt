@@ -27,7 +27,6 @@ use Rattle.walk.specs.declared.AllowPartial.{AllowPartial}
 use Rattle.walk.specs.declared.AllowPartial.the-variants.{TreatAsDenied, TreatAsPartialGranted, TreatAsGranted}
 use Rattle.walk.specs.Walk.{Query, noPath, path, queryDesc, isAllowAll}
 use Rattle.table.specs.declared.Kind.the-variants.{G, P}
-use Rattle.table.specs.Entries.{Entry}
 use Rattle.table.specs.Tables.{Table, has, setBit, granted, promptDenied, prompt, maxSwitches, isEntry}
 use Rattle.table.specs.Acts.{Act, insert, setSwitches, revoke, revokeAll, overflows, applyAct}
 use Rattle.table.specs.Memory.{tableOf, put}

@@ -3,7 +3,7 @@ use Prim.Native.Nat.{ℕ, _≤_, _<_}
 use mathlib.Core.Path.{_≡_, refl, sym, ap, subst, _∙_}
 use mathlib.Core.List.{List, [], _∷_}
 use mathlib.Core.Option.{Option, none, some}
-use mathlib.Core.Bool.{Bool, true, false, _&&_, _||_, not}
+use mathlib.Core.Bool.{true, false, _&&_, _||_, not}
 use native.Mathlib.Omega.{arith}
 use lib.ListN.{length, getD}
 use lib.Dec.{leb, ltb}
@@ -20,7 +20,7 @@ use Rattle.table.specs.Memory.{tableBytes, tableOf, holds, encode, put}
 use Rattle.table.specs.Calls.{Does, freshConditions, outcomeOf, memoryAfter}
 use Rattle.table.proofs.Codec.{Bytes}
 use Rattle.table.proofs.CallLaws.{fresh-long}
-use Rattle.table.proofs.Puts.{holds-put, long-of, put-self, put-put, tableOf-put, valid-of}
+use Rattle.table.proofs.Puts.{holds-put, put-self, put-put, tableOf-put, valid-of}
 use Rattle.walk.specs.declared.Descriptor.the-variants.{NoPath}
 use Rattle.child.specs.declared.ChildMade.{ChildMade}
 use Rattle.child.specs.declared.ChildUnaryPermissionArg.{ChildUnaryPermissionArg}
@@ -36,35 +36,8 @@ use Rattle.child.specs.Arguments.{
   itemsFit,
   isKnown,
 }
-use Rattle.child.specs.Making.{
-  Making,
-  refusedBy,
-  onward,
-  inTurn,
-  itemStep,
-  takeOver,
-  firstChild,
-  begun,
-  afterItems,
-  completed,
-  createChild,
-}
-use Rattle.child.specs.Calls.{
-  childConditions,
-  childCause,
-  childMaking,
-  refusalOf,
-  askedOf,
-  childLeft,
-  CreatesChild,
-  makingOf,
-  Makes,
-  MakesChild,
-  madeDone,
-  madeRefused,
-  standing,
-  Completes,
-}
+use Rattle.child.specs.Making.{Making, refusedBy, onward, inTurn, itemStep, takeOver, firstChild, begun, afterItems, completed}
+use Rattle.child.specs.Calls.{childConditions, childCause, refusalOf, askedOf, childLeft, CreatesChild, makingOf, Makes, MakesChild, madeDone, madeRefused, standing, Completes}
 use Rattle.child.proofs.MakingLaws.{outcome-refused, outcome-done}
 use Rattle.child.proofs.GrantingLaws.{Beyond, beyond-items}
 use Rattle.child.proofs.TakeOverLaws.{takeOver-follows}

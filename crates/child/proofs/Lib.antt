@@ -3,3 +3,4 @@ pub mod ArgumentLaws
 pub mod GrantingLaws
 pub mod TakeOverLaws
 pub mod CreatingLaws
+pub mod ChildLaws

@@ -18,6 +18,7 @@ use Rattle.table.specs.declared.Outcome.the-variants.{Done, Refused}
 use Rattle.table.specs.Calls.{outcomeOf}
 use Rattle.table.proofs.Codec.{Bytes}
 use Rattle.table.proofs.Puts.{left-put, long-of, put-self, put-put, length-after, tableOf-put}
+use Rattle.table.proofs.RevokeLaws.{switched-length}
 use Rattle.calls.specs.Decisions.{actFits, actOverflows, applied}
 use Rattle.calls.proofs.CarryingLaws.{table-applied}
 use Rattle.child.specs.declared.ChildMade.{ChildMade}
@@ -64,8 +65,8 @@ unfolding applied applyAct inserted
 insert-longer t e = length-after (place (t .entries) e) t e
 
 pub switches-longer : (t : Table) (v : ℕ) → length (encode t) ≤ length (encode (applied t (some (setSwitches v))))
-unfolding applied applyAct encode
-switches-longer t v = omega arith
+unfolding applied
+switches-longer t v = omega (arith, switched-length t v)
 
 -- an act that fits, has room and makes the table no shorter
 pub onto-applied : (t : Table) (a : Option Act) → isTable t ≡ true → actFits a ≡ true → actOverflows t a ≡ false

@@ -5,53 +5,26 @@ use mathlib.Core.List.{List, [], _∷_}
 use mathlib.Core.Option.{Option, none, some}
 use mathlib.Core.Bool.{Bool, true, false, cond}
 use native.Mathlib.Omega.{arith}
-use native.Mathlib.Nat.{zero-add, sub-zero}
 use lib.ListN.{length, getD, take, drop}
 use borrow.Author.Tests.{eqb-true}
 use Rattle.refusals.specs.declared.Refusal.{Refusal}
 use Rattle.refusals.specs.declared.Refusal.the-variants.{TableFull}
 use Rattle.paths.proofs.ComponentLaws.{and-left, and-right}
-use Rattle.paths.specs.Copying.{overwrite}
 use Rattle.table.specs.declared.Outcome.{Outcome}
 use Rattle.table.specs.declared.Outcome.the-variants.{Done, Refused}
 use Rattle.table.specs.declared.Kind.{Kind}
 use Rattle.table.specs.Entries.{Entry, isGranted}
-use Rattle.table.specs.Placing.{place}
 use Rattle.table.specs.Tables.{Table, has, setBit, clearBit, granted, maxSwitches, isEntry, every, isTable}
 use Rattle.table.specs.Acts.{insert, setSwitches, inserted, overflows, applyAct}
-use Rattle.table.specs.Memory.{
-  tableBytes,
-  wordAt,
-  lenAt,
-  nextAt,
-  kindFrom,
-  entryAt,
-  entriesAt,
-  offsetAt,
-  tableOf,
-  holds,
-  encode,
-  put,
-}
+use Rattle.table.specs.Memory.{wordAt, lenAt, nextAt, kindFrom, entryAt, entriesAt, tableOf, holds, encode, put}
 use Rattle.table.specs.Inserting.{Inserts}
 use Rattle.table.specs.Calls.{outcomeOf}
 use Rattle.table.proofs.Codec.{Bytes}
 use Rattle.table.proofs.TableLaws.{valid-parts}
 use Rattle.table.proofs.Within.{Rest, rest-start, rest-here, rest-next, entriesAt-step, entriesAt-none}
-use Rattle.table.proofs.Puts.{
-  long-of,
-  valid-of,
-  encode-front,
-  length-encoded,
-  encode-fits,
-  put-self,
-  tableOf-put,
-  holds-put,
-  put-put,
-  length-after,
-}
+use Rattle.table.proofs.Puts.{long-of, valid-of, put-self, tableOf-put, holds-put, put-put}
 use Rattle.table.proofs.FoundLaws.{table-placed}
-use Rattle.table.proofs.RevokeLaws.{clear-less, table-switched}
+use Rattle.table.proofs.RevokeLaws.{clear-less, switched-length, table-switched}
 use Rattle.walk.proofs.WalkLaws.{path-lent}
 use Rattle.calls.specs.Decisions.{actOverflows, applied}
 use Rattle.calls.proofs.CarryingLaws.{carries-insert, carried-done, carried-undone}
@@ -69,26 +42,6 @@ use Rattle.child.specs.Making.{
 }
 use Rattle.child.specs.Calls.{makingOf, MakesChild}
 use Rattle.child.proofs.MakingLaws.{refused-stays, outcome-refused, outcome-done, insert-longer}
-
--- ---- a copy
-
-module _ (p : List ℕ) (b : Bytes p) (h : holds p ≡ true) {count end : ℕ} (n : count ≡ wordAt p 0) (e : end ≡ offsetAt p count 4) where
-  copied-end : end ≡ length (encode (tableOf p))
-  copied-end = e ∙ ap (λ (k : ℕ). offsetAt p k 4) n ∙ sym (length-encoded p b h)
-
-  -- the table ends within the memory
-  pub copy-inside : end ≤ length p
-  copy-inside = omega (arith, copied-end, encode-fits (tableOf p) (valid-of p h), long-of p h)
-
-  copied : take (end - 0) (drop 0 p) ≡ encode (tableOf p)
-  copied = rw (e, n, sub-zero) (sym (encode-front p b h))
-
-  pub copy-fits : {k : ℕ} → tableBytes ≤ k → 0 + length (take (end - 0) (drop 0 p)) ≤ k
-  copy-fits long = rw copied (omega (arith, encode-fits (tableOf p) (valid-of p h)))
-
-  pub copy-law : (c : List ℕ) {c′ : List ℕ} → c′ ≡ overwrite c 0 (take (end - 0) (drop 0 p)) → c′ ≡ put (tableOf p) c
-  unfolding overwrite put
-  copy-law c q = q ∙ rw (copied, zero-add)
 
 -- ---- the switches
 
@@ -315,10 +268,10 @@ take-law p c c′ e q = q ∙ ap (λ (n : ℕ). put (applyAct (tableOf c) (setSw
 
 -- it keeps the parent and the count
 pub takeOver-follows : (s : Making) → Follows s (takeOver s)
-unfolding takeOver withSwitches applied applyAct encode
+unfolding takeOver withSwitches applied
 takeOver-follows s =
     let F = all-follow (s .parent .entries) (withSwitches s) in
-    record { parent = F .parent; asked = F .asked; longer = omega (arith, F .longer) }
+    record { parent = F .parent; asked = F .asked; longer = omega (arith, F .longer, switched-length (s .child) (childSwitches (s .parent .switches) (s .child .switches))) }
 
 pub takeOver-keeps : (s : Making) → isTable (s .parent) ≡ true → isTable (s .child) ≡ true → isTable (takeOver s .child) ≡ true
 unfolding takeOver withSwitches applied

@@ -1,9 +1,9 @@
 -- What a child call is handed: the child code, the items with their answers, and which of them are known. Document 01, "A call comes in".
 use Prim.Native.Nat.{ℕ, zero, suc, _-_}
 use mathlib.Core.List.{List, [], _∷_}
-use mathlib.Core.Bool.{Bool, true, false, _&&_, _||_, not}
+use mathlib.Core.Bool.{Bool, true, _&&_, not}
 use lib.ListN.{length, getD, take, drop}
-use lib.Dec.{eqb, leb, ltb}
+use lib.Dec.{eqb, leb}
 use Rattle.walk.specs.declared.Descriptor.{Descriptor}
 use Rattle.walk.specs.declared.Descriptor.the-variants.{NoPath, Path}
 use Rattle.child.specs.declared.ChildUnaryPermissionArg.{ChildUnaryPermissionArg}

@@ -3,23 +3,9 @@ use Prim.Native.Nat.{ℕ}
 use mathlib.Core.Path.{_≡_, refl, sym, ap, _∙_, subst}
 use mathlib.Core.List.{List, [], _∷_, _++_, dropLast, append-assoc, append-nil}
 use mathlib.Core.Bool.{Bool, true, false, _&&_, not, cond, false≢true}
-use lib.Dec.{eqb}
-use Rattle.paths.specs.Components.{slash, dot, same, parted, pieces, withoutEmpty, components, slashed, spell}
+use Rattle.paths.specs.Components.{dot, same, parted, pieces, withoutEmpty, components, slashed, spell}
 use Rattle.paths.specs.Resolving.{isAbsolute, isName, entered, enterAll, normalize, join, resolve, isResolved}
-use Rattle.paths.proofs.ComponentLaws.{
-  same-refl,
-  same-eq,
-  Unslashed,
-  Each,
-  nil,
-  cons,
-  pieces-slash,
-  pieces-unslashed,
-  pieces-slashed,
-  slashed-pieces,
-  each-append,
-  each-dropLast,
-}
+use Rattle.paths.proofs.ComponentLaws.{same-refl, same-eq, Unslashed, Each, nil, cons, pieces-unslashed, pieces-slashed, each-append, each-dropLast}
 
 abbrev pub Name : List ℕ → Type 0
 Name c = isName c ≡ true

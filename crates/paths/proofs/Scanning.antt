@@ -1,16 +1,15 @@
 -- Laws of scanning: the end of a component, names, and resolved form by names.
-use Prim.Native.Nat.{ℕ, zero, suc, _+_, _-_, _≤_, _<_}
+use Prim.Native.Nat.{ℕ, suc, _+_, _-_, _≤_, _<_}
 use mathlib.Core.Path.{_≡_, refl, sym, ap, _∙_}
 use mathlib.Core.List.{List, [], _∷_, _++_, tail-eq-of-cons-eq, nil≢cons}
-use mathlib.Core.Bool.{Bool, true, false, _&&_, _||_, not, false≢true}
+use mathlib.Core.Bool.{Bool, true, false, _&&_, not, false≢true}
 use native.Mathlib.Omega.{arith}
 use native.Mathlib.Numerals.{add-one}
 use lib.ListN.{length, getD, take, drop, length-drop, take-append-drop}
 use lib.Seq.{take-suc, drop-cons, drop-drop, getD-drop, take-all}
 use lib.Dec.{eqb}
-use native.Mathlib.Decide.{decLt}
 use borrow.Author.Count.{below-more}
-use borrow.Author.Tests.{le-leb, lt-leb, ne-eqb, eq-eqb, eqb-true, eqb-false, not-true}
+use borrow.Author.Tests.{le-leb, lt-leb, ne-eqb, eq-eqb, eqb-true, eqb-false}
 use Rattle.paths.specs.Components.{slash, dot, same, grown, parted, pieces, slashed, spell}
 use Rattle.paths.specs.Resolving.{isAbsolute, isName, entered, enterAll, normalize, isResolved}
 use Rattle.paths.specs.Scanning.{piecesFrom, EndsAt, allNames, plainPair, PlainBelow, plainAt, plainEight}

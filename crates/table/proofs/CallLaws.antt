@@ -1,17 +1,16 @@
 -- Laws of what a call does: a cause that holds, and a call that is done.
 use Prim.Native.Nat.{ℕ, _≤_, _<_}
-use mathlib.Core.Path.{_≡_, refl, sym, ap, subst, _∙_}
+use mathlib.Core.Path.{_≡_, sym, ap, subst, _∙_}
 use mathlib.Core.List.{List, [], _∷_, _++_}
-use mathlib.Core.Option.{Option, none, some}
+use mathlib.Core.Option.{none, some}
 use mathlib.Core.Bool.{Bool, true, false, not}
 use native.Mathlib.Omega.{arith}
-use lib.ListN.{length, set, drop}
+use lib.ListN.{length, set}
 use borrow.Author.Tests.{lt-ltb, le-ltb, le-leb, not-true, not-false}
 use Rattle.refusals.specs.declared.Refusal.{Refusal}
 use Rattle.refusals.specs.declared.Refusal.the-variants.{NoTable, Unknown, TableFull}
 use Rattle.refusals.specs.Refusals.{Condition, when, firstCause}
 use Rattle.refusals.proofs.CauseLaws.{cause-holds, cause-passes, cause-append-none, cause-append-some}
-use Rattle.table.specs.declared.Outcome.{Outcome}
 use Rattle.table.specs.declared.Outcome.the-variants.{Done, Refused}
 use Rattle.paths.specs.Copying.{overwrite}
 use Rattle.paths.specs.Resolving.{maxPath, resolve, pathConditions}

@@ -14,3 +14,4 @@ pub mod ProbeLaws
 pub mod RevokeLaws
 pub mod CallLaws
 pub mod ListingLaws
+pub mod TableCopies

@@ -400,6 +400,11 @@ module _ (m m′ : List ℕ) (h : holds m ≡ true) where
       → Left m m′ (applyAct (tableOf m) (setSwitches v))
   left-switched v s e = left-put m m′ _ (table-switched (tableOf m) v s (valid-of m h)) (long-of m h) e
 
+-- switches change no length
+pub switched-length : (t : Table) (v : ℕ) → length (encode (applyAct t (setSwitches v))) ≡ length (encode t)
+unfolding applyAct encode
+switched-length t v = refl
+
 -- the switches, set in memory that a table was put into
 pub then-switched : (m m₁ m₂ : List ℕ) (t : Table) (v : ℕ) → m₁ ≡ put t m → m₂ ≡ put (applyAct (tableOf m₁) (setSwitches v)) m₁
     → m₂ ≡ put (applyAct t (setSwitches v)) m

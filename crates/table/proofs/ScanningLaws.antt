@@ -1,25 +1,24 @@
 -- The memory test gives what `holds` says.
 use Prim.Native.Nat.{ℕ, zero, suc, _+_, _-_, _*_, _/_, _%_, _≤_, _<_}
-use mathlib.Core.Path.{_≡_, refl, sym, ap, _∙_, subst}
+use mathlib.Core.Path.{_≡_, refl, sym, ap, _∙_}
 use mathlib.Core.List.{List, [], _∷_}
-use mathlib.Core.Bool.{Bool, true, false, _&&_, _||_, cond, false≢true}
+use mathlib.Core.Bool.{Bool, true, false, _&&_, _||_, false≢true}
 use native.Mathlib.Omega.{arith}
 use native.Mathlib.Decide.{ℕ-discrete}
 use native.Mathlib.Nat.{not-suc-le-zero}
-use lib.ListN.{length, getD, take, drop, length-drop}
-use lib.Seq.{length-take-le}
+use lib.ListN.{length, getD, take, drop}
 use lib.Dec.{leb, eqb}
-use borrow.Author.Tests.{le-leb, lt-leb, leb-true, eqb-true, eq-eqb}
+use borrow.Author.Tests.{le-leb, leb-true, eqb-true, eq-eqb}
 use Rattle.paths.specs.Resolving.{maxPath, isResolved}
 use Rattle.paths.proofs.ComponentLaws.{and-left, and-right, and-both}
 use Rattle.table.specs.declared.Kind.{Kind}
 use Rattle.table.specs.declared.Kind.the-variants.{G, D, P, I}
 use Rattle.table.specs.Entries.{Entry, kindNumber}
-use Rattle.table.specs.Tables.{Table, has, setBit, marked, maxEntries, maxPathBytes, maxSwitches, pathBytes, isEntry, every, any, present, marksOf, isTable}
-use Rattle.table.specs.Memory.{tableBytes, wordAt, lenAt, nextAt, kindFrom, entryAt, entriesAt, tableOf, areWithin, holds}
+use Rattle.table.specs.Tables.{has, setBit, marked, maxEntries, maxPathBytes, maxSwitches, pathBytes, isEntry, every, any, present, marksOf}
+use Rattle.table.specs.Memory.{tableBytes, wordAt, lenAt, nextAt, entryAt, entriesAt, tableOf, areWithin, holds}
 use Rattle.table.specs.Scanning.{entryFits, scanned}
 use Rattle.table.proofs.TableLaws.{marksBy, mark-set, parts-valid, bit-kept, bit-added}
-use Rattle.table.proofs.Within.{Held, held, length-entries, length-path, pred-suc}
+use Rattle.table.proofs.Within.{held, length-entries, length-path, pred-suc}
 
 -- ---- marks met one after the other
 

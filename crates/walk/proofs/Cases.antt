@@ -17,7 +17,6 @@ use Rattle.walk.specs.Walk.{
   byMatch,
   queryDesc,
 }
-use Rattle.table.specs.declared.Kind.{Kind}
 use Rattle.table.specs.Entries.{isGranted, samePath, strictlyExtends, compareAlike, grantedOrder, compare}
 use Rattle.table.specs.Placing.{isAfter, searchFrom, search, placeBy, place, placedAt}
 use Rattle.table.specs.Tables.{has, setBit, clearBit, marked, any}

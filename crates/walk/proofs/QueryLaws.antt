@@ -1,11 +1,10 @@
 -- Laws of the call query: what each way through its checking order answers.
 use Prim.Native.Nat.{ℕ, zero, suc, _≤_, _<_}
-use mathlib.Core.Path.{_≡_, refl, sym, ap, _∙_}
-use mathlib.Core.List.{List, [], _∷_}
-use mathlib.Core.Option.{Option, none, some}
-use mathlib.Core.Bool.{Bool, true, false}
+use mathlib.Core.Path.{_≡_, refl, ap, _∙_}
+use mathlib.Core.List.{List}
+use mathlib.Core.Option.{none, some}
+use mathlib.Core.Bool.{true, false}
 use native.Mathlib.Omega.{arith}
-use lib.Dec.{ltb}
 use borrow.Author.Tests.{lt-ltb, le-ltb}
 use Rattle.refusals.specs.declared.Refusal.{Refusal}
 use Rattle.refusals.specs.declared.Refusal.the-variants.{NoTable, Unknown}
@@ -14,15 +13,12 @@ use Rattle.refusals.proofs.CauseLaws.{cause-holds, cause-passes}
 use Rattle.paths.specs.Resolving.{resolve, pathConditions}
 use Rattle.paths.proofs.Answering.{Given}
 use Rattle.table.specs.Memory.{tableOf, holds}
-use Rattle.table.specs.Calls.{tableConditions}
 use Rattle.table.proofs.CallLaws.{no-table, a-table}
 use Rattle.walk.specs.declared.PermissionState.{PermissionState}
 use Rattle.walk.specs.declared.AllowPartial.{AllowPartial}
-use Rattle.walk.specs.declared.ModeRead.{ModeRead}
 use Rattle.walk.specs.declared.ModeRead.the-variants as mode-read
 use Rattle.walk.specs.declared.Descriptor.{Descriptor}
 use Rattle.walk.specs.declared.Descriptor.the-variants.{NoPath, Path}
-use Rattle.walk.specs.declared.Answer.{Answer}
 use Rattle.walk.specs.declared.Answer.the-variants.{State, Refused}
 use Rattle.walk.specs.Walk.{queryOf, queryDesc, modeOf, readAs, modeRead}
 use Rattle.walk.specs.Calls.{givenConditions, queryConditions, modeFrom, answerOf, queryAnswer}

@@ -16,12 +16,12 @@ use Rattle.walk.specs.declared.PermissionState.the-variants.{
   Ignored,
 }
 use Rattle.walk.specs.declared.AllowPartial.{AllowPartial}
-use Rattle.walk.specs.declared.AllowPartial.the-variants.{TreatAsDenied, TreatAsPartialGranted, TreatAsGranted}
+use Rattle.walk.specs.declared.AllowPartial.the-variants.{TreatAsDenied, TreatAsPartialGranted}
 use Rattle.walk.specs.Walk.{Query, noPath, path, queryDesc}
 use Rattle.table.specs.declared.Kind.{Kind}
-use Rattle.table.specs.declared.Kind.the-variants.{G, D, P, I}
+use Rattle.table.specs.declared.Kind.the-variants.{G, D, P}
 use Rattle.table.specs.Entries.{Entry, compare}
-use Rattle.table.specs.Tables.{Table, fresh, flagIgnored}
+use Rattle.table.specs.Tables.{fresh, flagIgnored}
 use Rattle.table.specs.Acts.{Act, insert, setSwitches, revoke, applyActs}
 use Rattle.paths.specs.Resolving.{resolve}
 use Rattle.paths.specs.Relations.{isPrefix, pathOrder, less}

@@ -1,7 +1,7 @@
 -- `copy_table` meets its contract: the bytes that it copies are the table.
 use native.Mathlib.Omega.{arith}
 use Rattle.table.proofs.Puts.{long-of}
-use Rattle.child.proofs.TakeOverLaws.{copy-inside, copy-fits, copy-law}
+use Rattle.table.proofs.TableCopies.{copy-inside, copy-fits, copy-law}
 use borrow.Author.Needs.{needs}
 use Rattle.child.proofs.inheriting.copy_table.Statement.{statement}
 use Rattle.child.proofs.inheriting.copy_table.Tie as tie

@@ -1,5 +1,3 @@
-use mathlib.Core.Path.{_≡_, refl, sym}
-use native.Mathlib.Omega.{arith}
 use borrow.Author.Tests.{lt-ltb, le-ltb, eq-eqb, ne-eqb}
 use Rattle.paths.specs.Relations.{numberOrder}
 use Rattle.table.proofs.comparing.number_order.Statement.{statement}

@@ -1,7 +1,6 @@
 -- `insert_all` meets its contract: each turn goes past a word.
 use borrow.Author.Needs.{needs}
-use native.Mathlib.Omega.{arith}
-use Prim.Native.Nat.{_-_, _≤_}
+use Prim.Native.Nat.{_-_}
 use mathlib.Core.Path.{_≡_}
 use lib.ListN.{length}
 use Rattle.table_cases.proofs.calling.insert_all.Statement.{statement}

@@ -1,6 +1,5 @@
 -- `is_unchanged` meets its contract: the loop's index stays within the memory.
 use borrow.Author.Needs.{needs}
-use native.Mathlib.Omega.{arith}
 use Prim.Native.Nat.{_-_, _≤_}
 use lib.ListN.{length}
 use Rattle.table_cases.proofs.calling.is_unchanged.Statement.{statement}

@@ -1,6 +1,5 @@
 -- `word_end` meets its contract: the loop's index stays between the start and the end.
 use borrow.Author.Needs.{needs}
-use native.Mathlib.Omega.{arith}
 use Prim.Native.Nat.{_-_, _≤_}
 use lib.ListN.{length}
 use Rattle.table_cases.proofs.calling.word_end.Statement.{statement}

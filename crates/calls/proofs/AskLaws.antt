@@ -26,12 +26,13 @@ use Rattle.walk.specs.Walk.{queryOf}
 use Rattle.walk.specs.Calls.{givenConditions}
 use Rattle.walk.proofs.QueryLaws.{no-path-free, no-path-same, path-causes}
 use Rattle.calls.specs.declared.PromptResponse.{PromptResponse}
+use Rattle.calls.specs.declared.PromptResponse.the-variants.{Deny, Allow, AllowAll}
 use Rattle.calls.specs.declared.ResponseRead.{ResponseRead}
 use Rattle.calls.specs.declared.ResponseRead.the-variants as response-read
 use Rattle.walk.specs.declared.PermissionState.{PermissionState}
 use Rattle.calls.specs.declared.Verdict.{Verdict}
 use Rattle.calls.specs.declared.Verdict.the-variants.{Passed, Failed}
-use Rattle.calls.specs.Decisions.{responseFrom}
+use Rattle.calls.specs.Decisions.{responseNumber, responseFrom}
 use Rattle.calls.specs.Texts.{textOf}
 use Rattle.calls.specs.Calls.{
   textBytes,
@@ -51,6 +52,14 @@ response-above zero h = absurd (omega arith)
 response-above (suc zero) h = absurd (omega arith)
 response-above (suc (suc zero)) h = absurd (omega arith)
 response-above (suc (suc (suc n))) h = refl
+
+-- each answer is the one that its number names
+pub response-numbered : (response : PromptResponse)
+    → (responseRead (responseNumber response) ≡ response-read.Response response) × (responseFrom (responseNumber response) ≡ response)
+unfolding responseRead responseFrom
+response-numbered Deny = (refl, refl)
+response-numbered Allow = (refl, refl)
+response-numbered AllowAll = (refl, refl)
 
 pub response-known : (n : ℕ) (known : PromptResponse) → responseRead n ≡ response-read.Response known → (n ≤ 2) × (responseFrom n ≡ known)
 unfolding responseRead responseFrom

@@ -13,10 +13,18 @@ use Rattle.paths.proofs.ComponentLaws.{and-left, and-right}
 use Rattle.calls.specs.declared.PromptResponse.the-variants.{AllowAll}
 use Rattle.calls.specs.Decisions.{responseFrom}
 use Rattle.child.specs.declared.ChildUnaryPermissionArg.{ChildUnaryPermissionArg}
-use Rattle.child.specs.declared.ChildUnaryPermissionArg.the-variants.{GrantedList}
-use Rattle.child.specs.Arguments.{argFrom, areResponses, closeAt, responsesDue, itemsFit, isKnown}
+use Rattle.child.specs.declared.ChildUnaryPermissionArg.the-variants.{Inherit, Granted, NotGranted, GrantedList}
+use Rattle.child.specs.Arguments.{codeNumber, argFrom, areResponses, closeAt, responsesDue, itemsFit, isKnown}
 
 -- ---- numbers at their limit
+
+-- each argument is the one that its code names
+pub arg-numbered : (arg : ChildUnaryPermissionArg) → argFrom (codeNumber arg) ≡ arg
+unfolding argFrom
+arg-numbered Inherit = refl
+arg-numbered Granted = refl
+arg-numbered NotGranted = refl
+arg-numbered GrantedList = refl
 
 pub arg-last : (n : ℕ) → 2 < n → argFrom n ≡ GrantedList
 unfolding argFrom

@@ -16,14 +16,22 @@ use Rattle.table.specs.Memory.{tableOf, holds}
 use Rattle.table.proofs.CallLaws.{no-table, a-table}
 use Rattle.walk.specs.declared.PermissionState.{PermissionState}
 use Rattle.walk.specs.declared.AllowPartial.{AllowPartial}
+use Rattle.walk.specs.declared.AllowPartial.the-variants.{TreatAsDenied, TreatAsPartialGranted, TreatAsGranted}
 use Rattle.walk.specs.declared.ModeRead.the-variants as mode-read
 use Rattle.walk.specs.declared.Descriptor.{Descriptor}
 use Rattle.walk.specs.declared.Descriptor.the-variants.{NoPath, Path}
 use Rattle.walk.specs.declared.Answer.the-variants.{State, Refused}
-use Rattle.walk.specs.Walk.{queryOf, queryDesc, modeOf, readAs, modeRead}
+use Rattle.walk.specs.Walk.{modeNumber, queryOf, queryDesc, modeOf, readAs, modeRead}
 use Rattle.walk.specs.Calls.{givenConditions, queryConditions, modeFrom, answerOf, queryAnswer}
 
 -- ---- the mode
+
+-- each mode is the one that its number names
+pub mode-numbered : (mode : AllowPartial) → (modeOf (modeNumber mode) ≡ some mode) × (modeFrom (modeNumber mode) ≡ mode)
+unfolding modeOf modeFrom
+mode-numbered TreatAsDenied = (refl, refl)
+mode-numbered TreatAsPartialGranted = (refl, refl)
+mode-numbered TreatAsGranted = (refl, refl)
 
 pub mode-known : (n : ℕ) (mode : AllowPartial) → modeRead n ≡ mode-read.Mode mode → (n ≤ 2) × (modeFrom n ≡ mode)
 unfolding modeRead readAs modeOf modeFrom

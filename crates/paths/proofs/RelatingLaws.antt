@@ -1,22 +1,21 @@
 -- Laws of the one pass over two paths: what a component's end, a byte that both have and a first difference say of how they relate.
-use Prim.Native.Nat.{ℕ, zero, suc, _+_, _-_, _≤_, _<_}
+use Prim.Native.Nat.{ℕ, _+_, _-_, _≤_, _<_}
 use mathlib.Core.Path.{_≡_, refl, sym, ap, ap₂, _∙_}
 use mathlib.Core.List.{List, [], _∷_}
-use mathlib.Core.Bool.{Bool, true, false, _&&_, cond, false≢true}
+use mathlib.Core.Bool.{Bool, true, false, cond}
 use native.Mathlib.Omega.{arith}
 use native.Mathlib.Numerals.{add-one}
 use native.Mathlib.Decide.{decLt}
 use lib.ListN.{length, getD, drop, drop-of-length-le}
 use lib.Seq.{drop-cons, drop-drop}
 use lib.Dec.{eqb}
-use borrow.Author.Count.{below-more}
 use borrow.Author.Tests.{eq-eqb, ne-eqb, eqb-true, eqb-false}
 use Rattle.paths.specs.Components.{slash, same, grown, parted, pieces, withoutEmpty, components}
 use Rattle.paths.specs.Relations.{leads, isPrefix, numberOrder, orElse, inTurn, pathOrder, relatedBy, relation}
-use Rattle.paths.specs.Relating.{rankOf, Begins, sameByte, sameEight, Shares, Passes}
+use Rattle.paths.specs.Relating.{rankOf, Begins, FirstEnd}
 use Rattle.paths.specs.declared.Relation.{Relation}
 use Rattle.paths.specs.declared.Relation.the-variants.{Equal, Prefix, Extension, Less, Greater}
-use Rattle.paths.proofs.ComponentLaws.{and-left, and-right, pieces-byte}
+use Rattle.paths.proofs.ComponentLaws.{pieces-byte}
 use Rattle.paths.proofs.RelationLaws.{number-less, number-greater, number-equal}
 
 -- ---- how lists of components relate
@@ -127,12 +126,9 @@ module _ (p : List ℕ) (i : ℕ) where
   unfolding rankOf
   rank-byte h e = rw (drop-cons p i 0 h, ne-eqb _ _ e)
 
-  pub rank-within : 0 < rankOf (drop i p) → i < length p
-  rank-within h = go (decLt i (length p))
-    where
-      go : Dec (i < length p) → i < length p
-      go (yes k) = k
-      go (no k) = absurd (omega (arith, rank-end (omega arith)))
+  rank-at : i < length p → rankOf (drop i p) ≡ rankOf (getD p i 0 ∷ [])
+  unfolding rankOf
+  rank-at h = rw (drop-cons p i 0 h)
 
   components-end : length p ≤ i → components (drop i p) ≡ []
   unfolding components pieces withoutEmpty
@@ -143,120 +139,16 @@ module _ (p : List ℕ) (i : ℕ) where
   unfolding components pieces parted withoutEmpty
   slash-passed h e = rw (add-one i, drop-cons p i 0 h, eq-eqb _ _ e)
 
--- ---- bytes that both have
-
-module _ (p : List ℕ) (i : ℕ) (q : List ℕ) (j : ℕ) where
-  pub shares-none : i ≤ length p → j ≤ length q → Shares p i q j 0
-  shares-none h k = record { left = omega arith; right = omega arith; same = λ k l. absurd (omega arith) }
-
-  pub shares-byte : (n : ℕ) → Shares p i q j n → i + n < length p → j + n < length q → getD p (i + n) 0 ≡ getD q (j + n) 0 → Shares p i q j (n + 1)
-  shares-byte n s h k e = record {
-    left = omega arith;
-    right = omega arith;
-    same = below-more (λ (k : ℕ). getD p (i + k) 0 ≡ getD q (j + k) 0) n (s .same) e;
-  }
-
-  pub shares-fewer : (m n : ℕ) → m ≤ n → Shares p i q j n → Shares p i q j m
-  shares-fewer m n h s = record {
-    left = omega (arith, s .left);
-    right = omega (arith, s .right);
-    same = λ k l. s .same k (omega arith);
-  }
-
-  pub shares-more : (m n : ℕ) → Shares p i q j m → Shares p (i + m) q (j + m) n → Shares p i q j (m + n)
-  shares-more m n s t = record {
-    left = omega (arith, t .left);
-    right = omega (arith, t .right);
-    same = λ k l. go k l (decLt k m);
-  }
-    where
-      go : (k : ℕ) → k < m + n → Dec (k < m) → getD p (i + k) 0 ≡ getD q (j + k) 0
-      go k l (yes h) = s .same k h
-      go k l (no h) =
-          let e : i + k ≡ i + m + (k - m) = omega arith in
-          let f : j + k ≡ j + m + (k - m) = omega arith in
-          rw (e, f) (t .same (k - m) (omega arith))
-
-  shares-first : i < length p → j < length q → sameByte p i q j ≡ true → Shares p i q j 1
-  shares-first h k e = record { left = omega arith; right = omega arith; same = λ n l. go n (omega arith) }
-    where
-      go : (n : ℕ) → n ≡ 0 → getD p (i + n) 0 ≡ getD q (j + n) 0
-      go n z =
-          let f : i + 0 ≡ i = omega arith in
-          let g : j + 0 ≡ j = omega arith in
-          rw (z, f, g) (eqb-true _ _ e)
-
-  -- one more byte, where a test of those before it and of this one holds
-  shares-tested : (t : Bool) (n : ℕ) → i + n < length p → j + n < length q → (t ≡ true → Shares p i q j n) → t && sameByte p (i + n) q (j + n) ≡ true → Shares p i q j (n + 1)
-  shares-tested t n h k f e = shares-byte n (f (and-left t _ e)) h k (eqb-true _ _ (and-right t _ e))
-
-  pub shares-eight : i + 8 ≤ length p → j + 8 ≤ length q → sameEight p i q j ≡ true → Shares p i q j 8
-  shares-eight h k =
-      more 7 (omega arith) (more 6 (omega arith) (more 5 (omega arith) (more 4 (omega arith)
-      (more 3 (omega arith) (more 2 (omega arith) (more 1 (omega arith) (shares-first (omega arith) (omega arith))))))))
-    where
-      more : {t : Bool} (n : ℕ) → n < 8 → (t ≡ true → Shares p i q j n) → t && sameByte p (i + n) q (j + n) ≡ true → Shares p i q j (n + 1)
-      more {t} n l = shares-tested t n (omega arith) (omega arith)
-
--- the last of n bytes that both have is a slash: it ends a component in both
-pub passes-slash : {p : List ℕ} {i : ℕ} {q : List ℕ} {j n m : ℕ} → Shares p i q j n → m + 1 ≡ n → getD p (i + m) 0 ≡ slash → Passes p i q j m
-passes-slash {p} {i} {q} {j} {n} {m} s e f = record {
-  shares = shares-fewer p i q j m n (omega arith) s;
-  ended = λ h g.
-      (sym (rank-slash p (i + m) (omega (arith, s .left)) f), sym (rank-slash q (j + m) (omega (arith, s .right)) (sym (s .same m (omega arith)) ∙ f)));
-}
-
--- ---- what shared bytes say of how the paths relate
-
--- the components of a start behind a slash, and those of a start inside a component
-unfoldable after : Bool → List ℕ → List (List ℕ)
-after true p = components p
-after false p = inside p
-
-stands-at : (b : ℕ) (p : List ℕ) → (b ≡ slash → ⊥) → Stands (b ∷ p) (b + 1)
-stands-at b p h = stands-byte b p (pieces p) (pieces-byte b p h) refl
-
-after-slash : (t : Bool) (p q : List ℕ) → relationOf (after t (slash ∷ p)) (after t (slash ∷ q)) ≡ relationOf (components p) (components q)
-unfolding after inside opened components pieces parted withoutEmpty
-after-slash true p q = refl
-after-slash false p q = relationOf-empty (components p) (components q)
-
-after-other : (t : Bool) (a b : ℕ) (p q : List ℕ) → a ≡ b → (a ≡ slash → ⊥) → relationOf (after t (a ∷ p)) (after t (b ∷ q)) ≡ relationOf (inside p) (inside q)
-unfolding after
-after-other true a b p q e h =
-    let u : Stands (a ∷ p) (a + 1) = stands-at a p h in
-    let v : Stands (b ∷ q) (b + 1) = stands-at b q (λ f. h (e ∙ f)) in
-    ap₂ relationOf (begins-by u (omega arith)) (begins-by v (omega arith)) ∙ shared-by u v (omega arith) (omega arith)
-after-other false a b p q e h = shared-by (stands-at a p h) (stands-at b q (λ f. h (e ∙ f))) (omega arith) (omega arith)
-
-after-byte : (t : Bool) (a b : ℕ) (p q : List ℕ) → a ≡ b
-    → relationOf (after t (a ∷ p)) (after t (b ∷ q)) ≡ relationOf (after (eqb a slash) p) (after (eqb a slash) q)
-unfolding after
-after-byte t a b p q e = go (eqb a slash) refl
+-- two bytes of one rank are the same
+rank-same : (a b : ℕ) → rankOf (a ∷ []) ≡ rankOf (b ∷ []) → a ≡ b
+unfolding rankOf
+rank-same a b = go (eqb a slash) (eqb b slash) refl refl
   where
-    go : (s : Bool) → eqb a slash ≡ s → relationOf (after t (a ∷ p)) (after t (b ∷ q)) ≡ relationOf (after s p) (after s q)
-    go true f = rw (← e, eqb-true a slash f) (after-slash t p q)
-    go false f = after-other t a b p q e (eqb-false a slash f)
-
--- whether the last of n bytes from i on is a slash
-unfoldable behindSlash : List ℕ → ℕ → ℕ → Bool
-behindSlash p i zero = false
-behindSlash p i (suc n) = eqb (getD p (i + n) 0) slash
-
-shared-after : (p : List ℕ) (i : ℕ) (q : List ℕ) (j n : ℕ) → Shares p i q j n
-    → relationOf (inside (drop i p)) (inside (drop j q)) ≡ relationOf (after (behindSlash p i n) (drop (i + n) p)) (after (behindSlash p i n) (drop (j + n) q))
-unfolding behindSlash after
-shared-after p i q j zero s =
-    let e : i + 0 ≡ i = omega arith in
-    let f : j + 0 ≡ j = omega arith in
-    rw (e, f)
-shared-after p i q j (suc n) s =
-    let e : i + suc n ≡ suc (i + n) = omega arith in
-    let f : j + suc n ≡ suc (j + n) = omega arith in
-    let h : i + n < length p = omega (arith, s .left) in
-    let k : j + n < length q = omega (arith, s .right) in
-    shared-after p i q j n (shares-fewer p i q j n (suc n) (omega arith) s)
-    ∙ rw (e, f, drop-cons p (i + n) 0 h, drop-cons q (j + n) 0 k) (after-byte (behindSlash p i n) _ _ _ _ (s .same n (omega arith)))
+    go : (t u : Bool) → eqb a slash ≡ t → eqb b slash ≡ u → cond t 0 (a + 1) ≡ cond u 0 (b + 1) → a ≡ b
+    go true true f g e = eqb-true _ _ f ∙ sym (eqb-true _ _ g)
+    go true false f g e = absurd (omega arith)
+    go false true f g e = absurd (omega arith)
+    go false false f g e = omega arith
 
 -- ---- the two loops of `relate`
 
@@ -287,63 +179,33 @@ module _ {p q : List ℕ} {i j k l : ℕ} (s : Between p q i j) (b : Begins p i 
   second-ends e f =
       sym (between-begins .decides ∙ rw (components-end q l (omega arith)) (extension-by (stands (drop k p)) (b .begins (omega (arith, b .within)))))
 
--- i and j lie inside components, that of p begun at i₀, and what is left of both decides
-pub record Inside (p q : List ℕ) (i₀ i j : ℕ) : Type 0 where
+-- i and j lie inside components, that of p begun at i₀, what is left of both decides, and the first path to end does so at `end`
+pub record Inside (p q : List ℕ) (i₀ end i j : ℕ) : Type 0 where
   pub begun : 0 < rankOf (drop i₀ p)
   pub behind : i₀ ≤ i
-  pub left : i ≤ length p
-  pub right : j ≤ length q
+  pub ends : FirstEnd p i q j end
   pub decides : relation p q ≡ relationOf (inside (drop i p)) (inside (drop j q))
 
-pub inside-start : {p q : List ℕ} {i j : ℕ} → Between p q i j → 0 < rankOf (drop i p) → 0 < rankOf (drop j q) → Inside p q i i j
-inside-start {p} {q} {i} {j} s h k = record {
+pub inside-start : {p q : List ℕ} {i j end : ℕ} → Between p q i j → 0 < rankOf (drop i p) → 0 < rankOf (drop j q) → FirstEnd p i q j end → Inside p q i end i j
+inside-start {p} {q} {i} {j} s h k d = record {
   begun = h;
   behind = omega arith;
-  left = s .left;
-  right = s .right;
+  ends = d;
   decides = s .decides ∙ ap₂ relationOf (begins-by (stands (drop i p)) h) (begins-by (stands (drop j q)) k);
 }
 
-pub inside-passed : {p q : List ℕ} {i₀ i j n : ℕ} → Inside p q i₀ i j → Passes p i q j n → Inside p q i₀ (i + n) (j + n)
-unfolding after behindSlash
-inside-passed {p} {q} {i₀} {i} {j} {n} s r = record {
-  begun = s .begun;
-  behind = omega (arith, s .behind);
-  left = r .shares .left;
-  right = r .shares .right;
-  decides = s .decides ∙ shared-after p i q j n (r .shares) ∙ go n (r .ended) (behindSlash p i n) refl;
-}
-  where
-    go : (n : ℕ) → (0 < n → getD p (i + (n - 1)) 0 ≡ slash → (rankOf (drop (i + n) p) ≡ 0) × (rankOf (drop (j + n) q) ≡ 0)) → (t : Bool) → behindSlash p i n ≡ t
-        → relationOf (after t (drop (i + n) p)) (after t (drop (j + n) q)) ≡ relationOf (inside (drop (i + n) p)) (inside (drop (j + n) q))
-    go n f false e = refl
-    go zero f true e = absurd (false≢true e)
-    go (suc n) f true e =
-        let m : suc n - 1 ≡ n = omega arith in
-        let z = f (omega arith) (rw m (eqb-true _ _ e)) in
-        sym (ended-by (stands (drop (i + suc n) p)) (stands (drop (j + suc n) q)) (z .0) (z .1))
-
 -- a and b are the ranks at i and j
-module _ {p q : List ℕ} {i₀ i j a b : ℕ} (s : Inside p q i₀ i j) (e : a ≡ rankOf (drop i p)) (f : b ≡ rankOf (drop j q)) where
-  pub inside-again : a ≡ b → (a ≡ 0 → ⊥) → Inside p q i₀ (i + 1) (j + 1)
-  inside-again g n = record {
-    begun = s .begun;
-    behind = omega (arith, s .behind);
-    left = omega (arith, rank-within p i (omega arith));
-    right = omega (arith, rank-within q j (omega arith));
-    decides = s .decides ∙ rw (← drop-drop 1 i p, ← drop-drop 1 j q) (shared-by (stands (drop i p)) (stands (drop j q)) (omega arith) (omega arith));
-  }
-
-  pub inside-end : a ≡ b → a ≡ 0 → Between p q i j
-  inside-end g z = record {
-    left = s .left;
-    right = s .right;
-    decides = s .decides ∙ ended-by (stands (drop i p)) (stands (drop j q)) (omega arith) (omega arith);
-  }
-
-  -- at its end a component that began at i₀ has been left
-  pub inside-moved : a ≡ 0 → i₀ < i
-  inside-moved z = go (decLt i₀ i)
+module _ {p q : List ℕ} {i₀ end i j a b : ℕ} (s : Inside p q i₀ end i j) (e : a ≡ rankOf (drop i p)) (f : b ≡ rankOf (drop j q)) where
+  -- the component that began at i₀ has been left at its end
+  inside-end : a ≡ 0 → b ≡ 0 → (i₀ < i) × Between p q i j
+  inside-end y z = (
+    go (decLt i₀ i),
+    record {
+      left = omega (arith, s .ends .ahead, s .ends .left);
+      right = omega (arith, s .ends .ahead, s .ends .right);
+      decides = s .decides ∙ ended-by (stands (drop i p)) (stands (drop j q)) (omega arith) (omega arith);
+    },
+  )
     where
       go : Dec (i₀ < i) → i₀ < i
       go (yes h) = h
@@ -351,8 +213,40 @@ module _ {p q : List ℕ} {i₀ i j a b : ℕ} (s : Inside p q i₀ i j) (e : a 
           let g : i₀ ≡ i = omega (arith, s .behind) in
           absurd (omega (arith, s .begun, ap (λ (k : ℕ). rankOf (drop k p)) g))
 
+  -- where one path ends, the other's component ends too
+  pub inside-last : i ≡ end → a ≡ b → (i₀ < i) × Between p q i j
+  inside-last h g = go (decLt i (length p))
+    where
+      go : Dec (i < length p) → (i₀ < i) × Between p q i j
+      go (yes l) = let z = rank-end q j (omega (arith, s .ends .one (omega arith))) in inside-end (omega arith) (omega arith)
+      go (no l) = let z = rank-end p i (omega arith) in inside-end (omega arith) (omega arith)
+
   pub inside-less : a < b → Less ≡ relation p q
   inside-less h = sym (s .decides ∙ less-by (stands (drop i p)) (stands (drop j q)) (omega arith))
 
   pub inside-greater : b < a → Greater ≡ relation p q
   inside-greater h = sym (s .decides ∙ greater-by (stands (drop i p)) (stands (drop j q)) (omega arith))
+
+-- neither path has ended
+module _ {p q : List ℕ} {i₀ end i j : ℕ} (s : Inside p q i₀ end i j) (h : i < length p) (k : j < length q) where
+  pub inside-byte : getD p i 0 ≡ getD q j 0 → (getD p i 0 ≡ slash → ⊥) → i < end → Inside p q i₀ end (i + 1) (j + 1)
+  inside-byte e n l =
+      let a = rank-byte p i h n in
+      let b = rank-byte q j k (λ g. n (e ∙ g)) in
+      record {
+        begun = s .begun;
+        behind = omega (arith, s .behind);
+        ends = record {
+          ahead = omega arith;
+          left = s .ends .left;
+          right = omega (arith, s .ends .right);
+          one = λ m. omega (arith, s .ends .one m);
+        };
+        decides = s .decides ∙ rw (← drop-drop 1 i p, ← drop-drop 1 j q) (shared-by (stands (drop i p)) (stands (drop j q)) (omega arith) (omega arith));
+      }
+
+  pub inside-slash : getD p i 0 ≡ getD q j 0 → getD p i 0 ≡ slash → (i₀ < i) × Between p q i j
+  inside-slash e g = inside-end s (rank-slash p i h g) (rank-slash q j k (sym e ∙ g)) refl refl
+
+  pub inside-differs : (getD p i 0 ≡ getD q j 0 → ⊥) → rankOf (drop i p) ≡ rankOf (drop j q) → ⊥
+  inside-differs n e = n (rank-same _ _ (sym (rank-at p i h) ∙ e ∙ rank-at q j k))

@@ -1,6 +1,7 @@
 -- `relating::relate` meets its contract. The outer loop's invariant: i and j lie between components, and those from there on decide.
 -- The inner loop's: i and j lie inside components, and what is left of both decides. Both measures are what is left of the first path. Assumes nothing.
 use Prim.Native.Nat.{_-_}
+use mathlib.Core.Logic.{⊎-elim}
 use native.Mathlib.Omega.{arith}
 use lib.ListN.{length}
 use borrow.Author.Needs.{needs}
@@ -13,10 +14,10 @@ use Rattle.paths.proofs.RelatingLaws.{
   second-ends,
   Inside,
   inside-start,
-  inside-passed,
-  inside-again,
-  inside-end,
-  inside-moved,
+  inside-last,
+  inside-byte,
+  inside-slash,
+  inside-differs,
   inside-less,
   inside-greater,
 }
@@ -24,10 +25,10 @@ use Rattle.paths.proofs.relating.relate.Statement.{statement}
 use Rattle.paths.proofs.relating.relate.Tie as tie
 
 abbrev Inv-loop : tie.InvT-loop
-Inv-loop p q i₀ j₀ i j = Inside p q i₀ i j
+Inv-loop p q i₀ j₀ end i j = Inside p q i₀ end i j
 
 abbrev μ-loop : tie.MeasureT-loop
-μ-loop p q i₀ j₀ i j = length p - i
+μ-loop p q i₀ j₀ end i j = length p - i
 
 abbrev Inv-components : tie.InvT-components
 Inv-components p q i₀ j₀ i j = Between p q i j
@@ -61,21 +62,15 @@ returns-3 c =
     let n = c .before .before in
     second-ends (n .before .before .components .inv) (n .before .next-component .ensures) (n .next-component2 .ensures) (c .before .if1 .left) (c .if3 .taken)
 
+first-end-requires : tie.Need-first-end-requires Inv-loop μ-loop Inv-components μ-components
+first-end-requires c κs = search needs
+
 loop-holds : tie.Need-loop-holds Inv-loop μ-loop Inv-components μ-components
 loop-holds c =
-    let n = c .before .before in
+    let n = c .before .before .before in
     let b = n .before .next-component .ensures in
     let d = n .next-component2 .ensures in
-    inside-start (between-begins (n .before .before .components .inv) b d) (b .begins (omega arith)) (d .begins (omega arith))
-
-same-run-requires : tie.Need-same-run-requires Inv-loop μ-loop Inv-components μ-components
-same-run-requires c κs = search needs
-
-add-i : tie.Need-add-i Inv-loop μ-loop Inv-components μ-components
-add-i c = search needs
-
-add-j : tie.Need-add-j Inv-loop μ-loop Inv-components μ-components
-add-j c = search needs
+    inside-start (between-begins (n .before .before .components .inv) b d) (b .begins (omega arith)) (d .begins (omega arith)) (c .first-end .ensures)
 
 rank-requires : tie.Need-rank-requires Inv-loop μ-loop Inv-components μ-components
 rank-requires c κs = search needs
@@ -86,32 +81,43 @@ rank-requires-2 c κs = search needs
 components-less : tie.Need-components-less Inv-loop μ-loop Inv-components μ-components
 components-less c =
     let r = c .before .before in
-    omega (
-      arith,
-      inside-moved (inside-passed (r .before .before .before .loop .inv) (r .before .before .same-run .ensures)) (r .before .rank .ensures) (r .rank2 .ensures) (c .if5 .taken),
-      r .before .before .before .before .before .before .before .next-component .ensures .behind,
-    )
+    omega (arith, inside-last (r .before .before .loop .inv) (r .rank .ensures) (c .before .rank2 .ensures) (omega arith) (omega arith) .0)
 
 components-again : tie.Need-components-again Inv-loop μ-loop Inv-components μ-components
 components-again c =
     let r = c .before .before in
-    inside-end (inside-passed (r .before .before .before .loop .inv) (r .before .before .same-run .ensures)) (r .before .rank .ensures) (r .rank2 .ensures) (omega arith) (c .if5 .taken)
+    inside-last (r .before .before .loop .inv) (r .rank .ensures) (c .before .rank2 .ensures) (omega arith) (omega arith) .1
 
-add-i-2 : tie.Need-add-i-2 Inv-loop μ-loop Inv-components μ-components
-add-i-2 c = search needs
+shared-slice-read-if6 : tie.Need-shared-slice-read-if6 Inv-loop μ-loop Inv-components μ-components
+shared-slice-read-if6 c = search needs
 
-add-j-2 : tie.Need-add-j-2 Inv-loop μ-loop Inv-components μ-components
-add-j-2 c = search needs
+shared-slice-read-if6-2 :
+    tie.Need-shared-slice-read-if6-2 Inv-loop μ-loop Inv-components μ-components
+shared-slice-read-if6-2 c = search needs
+
+shared-slice-read-if7 : tie.Need-shared-slice-read-if7 Inv-loop μ-loop Inv-components μ-components
+shared-slice-read-if7 c = search needs
+
+components-less-2 : tie.Need-components-less-2 Inv-loop μ-loop Inv-components μ-components
+components-less-2 c =
+    omega (arith, inside-slash (c .before .before .before .before .before .before .loop .inv) (omega arith) (omega arith) (omega arith) (omega arith) .0)
+
+components-again-2 : tie.Need-components-again-2 Inv-loop μ-loop Inv-components μ-components
+components-again-2 c =
+    inside-slash (c .before .before .before .before .before .before .loop .inv) (omega arith) (omega arith) (omega arith) (omega arith) .1
+
+add-i : tie.Need-add-i Inv-loop μ-loop Inv-components μ-components
+add-i c = search needs
+
+add-j : tie.Need-add-j Inv-loop μ-loop Inv-components μ-components
+add-j c = search needs
 
 loop-less : tie.Need-loop-less Inv-loop μ-loop Inv-components μ-components
-loop-less c =
-    let r = c .before .before in
-    omega (arith, inside-again (inside-passed (r .before .before .before .loop .inv) (r .before .before .same-run .ensures)) (r .before .rank .ensures) (r .rank2 .ensures) (omega arith) (c .if5 .left) .left)
+loop-less c = search needs
 
 loop-again : tie.Need-loop-again Inv-loop μ-loop Inv-components μ-components
 loop-again c =
-    let r = c .before .before in
-    inside-again (inside-passed (r .before .before .before .loop .inv) (r .before .before .same-run .ensures)) (r .before .rank .ensures) (r .rank2 .ensures) (omega arith) (c .if5 .left)
+    inside-byte (c .before .before .before .before .before .before .loop .inv) (omega arith) (omega arith) (omega arith) (λ e. omega arith) (omega arith)
 
 rank-requires-3 : tie.Need-rank-requires-3 Inv-loop μ-loop Inv-components μ-components
 rank-requires-3 c κs = search needs
@@ -122,12 +128,14 @@ rank-requires-4 c κs = search needs
 returns-4 : tie.Need-returns-4 Inv-loop μ-loop Inv-components μ-components
 returns-4 c =
     let r = c .before in
-    inside-less (inside-passed (r .before .before .before .before .before .before .loop .inv) (r .before .before .before .before .before .same-run .ensures)) (r .before .rank3 .ensures) (r .rank4 .ensures) (omega arith)
+    inside-less (r .before .before .before .loop .inv) (r .before .rank3 .ensures) (r .rank4 .ensures) (omega arith)
 
 returns-5 : tie.Need-returns-5 Inv-loop μ-loop Inv-components μ-components
 returns-5 c =
     let r = c .before in
-    inside-greater (inside-passed (r .before .before .before .before .before .before .loop .inv) (r .before .before .before .before .before .same-run .ensures)) (r .before .rank3 .ensures) (r .rank4 .ensures) (omega arith)
+    let s = r .before .before .before .loop .inv in
+    inside-greater s (r .before .rank3 .ensures) (r .rank4 .ensures)
+    (⊎-elim (λ w. omega (arith, w .1 .ensures, w .2 .ensures)) (λ w. omega (arith, inside-differs s (omega arith) (omega arith) (w .3 .taken))) (r .before .before .if4 .came))
 
 pub relate-spec : {M : Type 1} → statement M
 relate-spec =
@@ -143,16 +151,19 @@ relate-spec =
     returns
     returns-2
     returns-3
+    first-end-requires
     loop-holds
-    same-run-requires
-    add-i
-    add-j
     rank-requires
     rank-requires-2
     components-less
     components-again
-    add-i-2
-    add-j-2
+    shared-slice-read-if6
+    shared-slice-read-if6-2
+    shared-slice-read-if7
+    components-less-2
+    components-again-2
+    add-i
+    add-j
     loop-less
     loop-again
     rank-requires-3

@@ -1,191 +1,313 @@
--- Laws of check and request: the operator's answer, the checking order whatever the act, and what is handed on. Both calls cite them.
-use Prim.Native.Nat.{ℕ, zero, suc, _≤_, _<_}
+-- Laws of check, request and revoke: what carrying out a decision comes to, each way through the checking order, and what is handed on.
+use Prim.Native.Nat.{ℕ, _≤_, _<_}
 use mathlib.Core.Path.{_≡_, refl, sym, ap, _∙_}
 use mathlib.Core.List.{List, []}
 use mathlib.Core.Option.{Option, none, some}
-use mathlib.Core.Bool.{Bool, true, false, not, _||_}
+use mathlib.Core.Bool.{Bool, true, false, cond}
 use native.Mathlib.Omega.{arith}
 use lib.ListN.{length, take}
 use lib.Seq.{length-take-le}
-use borrow.Author.Tests.{lt-ltb, le-ltb, ltb-false, not-false}
+use borrow.Author.Tests.{lt-ltb, le-ltb}
 use Rattle.refusals.specs.declared.Refusal.{Refusal}
-use Rattle.refusals.specs.declared.Refusal.the-variants.{NoTable, NoSpace, Unknown}
-use Rattle.refusals.specs.Refusals.{firstCause}
-use Rattle.refusals.proofs.CauseLaws.{cause-holds, cause-passes, no-cause-head, no-cause-tail, cause-append-none, cause-append-some}
+use Rattle.refusals.specs.declared.Refusal.the-variants.{NoTable, NoSpace}
+use Rattle.refusals.specs.declared.Refusal.the-variants as refusal
+use Rattle.refusals.specs.Refusals.{firstCause, Result, refused, ok, andThen, unless}
+use Rattle.paths.specs.declared.Descriptor.{Descriptor}
+use Rattle.paths.specs.declared.Descriptor.the-variants.{NoPath, Path}
 use Rattle.paths.specs.declared.Resolution.{Resolution}
-use Rattle.paths.specs.declared.Resolution.the-variants.{Resolved, Refused}
-use Rattle.paths.specs.Resolving.{resolve, maxPath, pathConditions, Resolves}
-use Rattle.paths.proofs.Answering.{Given, resolution-resolved, resolution-refused, given-space, given-room}
-use Rattle.table.specs.declared.Kind.the-variants.{G}
-use Rattle.table.specs.Acts.{Act}
-use Rattle.table.specs.Memory.{kindFrom, tableOf, holds}
-use Rattle.table.proofs.CallLaws.{no-table, a-table, entry-handed}
-use Rattle.walk.specs.declared.Descriptor.{Descriptor}
-use Rattle.walk.specs.declared.Descriptor.the-variants.{NoPath, Path}
-use Rattle.walk.specs.Walk.{queryOf}
-use Rattle.walk.specs.Calls.{givenConditions}
-use Rattle.walk.proofs.QueryLaws.{no-path-free, no-path-same, path-causes}
-use Rattle.calls.specs.declared.PromptResponse.{PromptResponse}
-use Rattle.calls.specs.declared.PromptResponse.the-variants.{Deny, Allow, AllowAll}
-use Rattle.calls.specs.declared.ResponseRead.{ResponseRead}
-use Rattle.calls.specs.declared.ResponseRead.the-variants as response-read
+use Rattle.paths.specs.declared.Resolution.the-variants as resolution
+use Rattle.paths.specs.Resolving.{resolve}
+use Rattle.paths.specs.Copying.{begun}
+use Rattle.paths.specs.Giving.{Query, isQuery, queryOf, given, givenSize, givenInto, Gives}
+use Rattle.paths.proofs.GivingLaws.{Stands, gives-refused, gives-stands, given-stands}
+use Rattle.table.specs.declared.Numbering.{Numbering}
+use Rattle.table.specs.declared.Numbering.the-variants.{Plain}
+use Rattle.table.specs.declared.Outcome.{Outcome}
+use Rattle.table.specs.declared.Outcome.the-variants.{Done, Refused}
+use Rattle.table.specs.Tables.{Table}
+use Rattle.table.specs.Acts.{Act, applyActs}
+use Rattle.table.specs.Memory.{tableOf, holds, doActs}
+use Rattle.table.specs.Carrying.{carryCause, actsOf, actOf, fits, CarriesOut}
+use Rattle.table.specs.Calls.{tableIn}
+use Rattle.table.proofs.ActLaws.{carried-done, carried-refused, carried-held, acted-carried}
+use Rattle.table.proofs.CallLaws.{no-table, a-table}
 use Rattle.walk.specs.declared.PermissionState.{PermissionState}
-use Rattle.calls.specs.declared.Verdict.{Verdict}
-use Rattle.calls.specs.declared.Verdict.the-variants.{Passed, Failed}
-use Rattle.calls.specs.Decisions.{responseNumber, responseFrom}
+use Rattle.walk.specs.declared.AllowPartial.the-variants.{TreatAsPartialGranted}
+use Rattle.walk.specs.Walk.{queryDesc}
+use Rattle.walk.specs.declared.Answer.{Answer}
+use Rattle.walk.specs.declared.Answer.the-variants as answer
+use Rattle.calls.specs.declared.PromptResponse.{PromptResponse}
+use Rattle.calls.specs.declared.ResponseRead.the-variants.{Response, Unknown}
+use Rattle.calls.specs.declared.Call.{Call}
+use Rattle.calls.specs.declared.Decided.{Decided}
+use Rattle.calls.specs.declared.Settled.{Settled}
+use Rattle.calls.specs.declared.Settled.the-variants as settled-as
+use Rattle.calls.specs.declared.Asked.{Asked}
+use Rattle.calls.specs.Decisions.{responseOf, knownResponse, Decision, decide}
 use Rattle.calls.specs.Texts.{textOf}
 use Rattle.calls.specs.Calls.{
+  carriedOut,
+  answerIn,
+  askedIn,
+  actsIn,
+  textIn,
+  settled,
+  settledAs,
+  Settles,
   textBytes,
-  responseRead,
-  actConditions,
-  askConditions,
-  isFailed,
-  Asked,
-  fullCause,
+  textSpace,
+  askCall,
+  textDue,
+  Asks,
+  revokeAct,
+  revokeDesc,
+  revokeCall,
+  Revokes,
 }
+use Rattle.calls.specs.Asking.{Decides, SettlesQuery, RevokesQuery, refusedAsk, HasText, Finishes}
+use Rattle.calls.proofs.TextLaws.{length-text}
+use Rattle.calls.proofs.FittingLaws.{revoke-fits}
 
--- ---- the operator's answer
+-- ---- a decision that is carried out
 
-pub response-above : (n : ℕ) → 2 < n → responseRead n ≡ response-read.Unknown
-unfolding responseRead
-response-above zero h = absurd (omega arith)
-response-above (suc zero) h = absurd (omega arith)
-response-above (suc (suc zero)) h = absurd (omega arith)
-response-above (suc (suc (suc n))) h = refl
+pub acts-by : (cause : Option Refusal) (decision : Decision) → actsOf cause (decision .act) ≡ actsIn (unless cause decision)
+unfolding actsIn unless actsOf
+acts-by none decision = refl
+acts-by (some cause) decision = refl
 
--- each answer is the one that its number names
-pub response-numbered : (response : PromptResponse)
-    → (responseRead (responseNumber response) ≡ response-read.Response response) × (responseFrom (responseNumber response) ≡ response)
-unfolding responseRead responseFrom
-response-numbered Deny = (refl, refl)
-response-numbered Allow = (refl, refl)
-response-numbered AllowAll = (refl, refl)
+module _ (decision : Decision) {numbers : Numbering} {m m′ : List ℕ} {o : Outcome} (C : CarriesOut numbers (decision .act) m m′ o) where
+  pub carried-memory : m′ ≡ doActs m (actsIn (carriedOut numbers (tableOf m) decision))
+  unfolding carriedOut
+  carried-memory = C .memory ∙ ap (doActs m) (acts-by (carryCause numbers (tableOf m) (decision .act)) decision)
 
-pub response-known : (n : ℕ) (known : PromptResponse) → responseRead n ≡ response-read.Response known → (n ≤ 2) × (responseFrom n ≡ known)
-unfolding responseRead responseFrom
-response-known zero known e = (omega arith, cc)
-response-known (suc zero) known e = (omega arith, cc)
-response-known (suc (suc zero)) known e = (omega arith, cc)
-response-known (suc (suc (suc n))) known e = let z : _≡_ {A = ℕ} 0 1 = cc in absurd (omega arith)
+  pub carried-stops : {cause : Refusal} → o ≡ Refused cause → carriedOut numbers (tableOf m) decision ≡ refused cause
+  unfolding carriedOut unless
+  carried-stops e = rw (carried-refused C e)
 
-pub response-unknown : (n : ℕ) → responseRead n ≡ response-read.Unknown → 2 < n
-unfolding responseRead
-response-unknown zero e = let z : _≡_ {A = ℕ} 0 1 = cc in absurd (omega arith)
-response-unknown (suc zero) e = let z : _≡_ {A = ℕ} 0 1 = cc in absurd (omega arith)
-response-unknown (suc (suc zero)) e = let z : _≡_ {A = ℕ} 0 1 = cc in absurd (omega arith)
-response-unknown (suc (suc (suc n))) e = omega arith
+  pub carried-goes : o ≡ Done → carriedOut numbers (tableOf m) decision ≡ ok decision
+  unfolding carriedOut unless
+  carried-goes e = rw (carried-done C e)
 
--- ---- whether a check writes
+-- the act of the code's decision is the decision's
+pub carries-decided : {numbers : Numbering} {decision : Decision} {q : List ℕ} {r : Decided} {m m′ : List ℕ} {o : Outcome}
+    → Decides decision q r → CarriesOut numbers (actOf (r .action) q) m m′ o → CarriesOut numbers (decision .act) m m′ o
+carries-decided D C = rw (D .act) at C
 
-pub writes-passed : (verdict : Verdict) (asked : Bool) → verdict ≡ Passed → asked ≡ asked || isFailed verdict
-unfolding isFailed
-writes-passed verdict true e = refl
-writes-passed verdict false e = rw e
+-- ---- check and request of what is resolved
 
-pub writes-failed : (verdict : Verdict) (asked : Bool) {state : PermissionState} → verdict ≡ Failed state → true ≡ asked || isFailed verdict
-unfolding isFailed
-writes-failed verdict true e = refl
-writes-failed verdict false e = rw e
+module _ {call : Call} {numbers : Numbering} {m m′ : List ℕ} {q : Query} {response : PromptResponse} {o : Outcome}
+    (C : CarriesOut numbers (decide call (tableOf m) q response .act) m m′ o) where
+  pub query-refused : {n : ℕ} {cause : Refusal} → o ≡ Refused cause → SettlesQuery call numbers m q response n m′ (settled-as.Refused cause)
+  unfolding settledAs
+  query-refused e = record { answer = rw (carried-stops (decide call (tableOf m) q response) C e); memory = carried-memory _ C }
 
--- ---- the checking order, whatever the act
+  pub query-decided : {n : ℕ} {l : List ℕ} {r : Decided} → o ≡ Done → Decides (decide call (tableOf m) q response) l r
+      → SettlesQuery call numbers m q response n m′ (settled-as.Decided (r .state) (r .asked) (r .writes) n)
+  unfolding settledAs
+  query-decided e D = record { answer = rw (carried-goes (decide call (tableOf m) q response) C e, ← D .state, ← D .asked, ← D .writes); memory = carried-memory _ C }
 
--- the conditions of the lent memory, the text space and the operator's answer are passed
-pub record Ready (m s : List ℕ) (response : ℕ) (known : PromptResponse) : Type 0 where
-  pub holding : holds m ≡ true
-  pub room : textBytes ≤ length s
-  pub read : responseRead response ≡ response-read.Response known
+-- ---- and of what is given
 
--- as the code finds it out
-pub ready : {m s : List ℕ} {response : ℕ} {known : PromptResponse} {held : Bool} {read : ResponseRead}
-    → held ≡ holds m → not held ≡ false → textBytes ≤ length s → read ≡ responseRead response → read ≡ response-read.Response known
-    → Ready m s response known
-ready a b room c e = record { holding = sym a ∙ not-false _ b; room = room; read = sym c ∙ e }
+module _ {call : Call} {numbers : Numbering} {d : Descriptor} {p cwd : List ℕ} {response : PromptResponse} {m s s′ : List ℕ} {r : Resolution}
+    (G : Gives d p cwd s r s′) where
+  pub settles-refused : {cause : Refusal} → r ≡ resolution.Refused cause → Settles call numbers m d p cwd response s m s′ (settled-as.Refused cause)
+  unfolding settled andThen settledAs actsIn doActs
+  settles-refused e = record { answer = rw (gives-refused G e); memory = rw (gives-refused G e); bytes = G .bytes }
 
-module _ (m s : List ℕ) (response : ℕ) (act : Option Act) (d : Descriptor) (p cwd : List ℕ) where
-  pub ask-no-table : holds m ≡ false → firstCause (askConditions m s response act d p cwd) ≡ some NoTable
-  unfolding askConditions
-  ask-no-table h = no-table m _ h
+  pub settles-query : {n : ℕ} {m′ : List ℕ} {o : Settled} → r ≡ resolution.Resolved n
+      → SettlesQuery call numbers m (queryOf d (take n s′)) response n m′ o → Settles call numbers m d p cwd response s m′ s′ o
+  unfolding settled andThen
+  settles-query e Q =
+      let S = gives-stands G e in
+      record { answer = rw (S .query, ← S .size) (Q .answer); memory = rw (S .query) (Q .memory); bytes = G .bytes }
 
-  pub ask-no-space : holds m ≡ true → length s < textBytes → firstCause (askConditions m s response act d p cwd) ≡ some NoSpace
-  unfolding askConditions
-  ask-no-space h l = a-table m _ h ∙ cause-holds NoSpace _ (lt-ltb _ _ l)
+-- ---- what a settled call tells
 
-  pub ask-unknown : holds m ≡ true → textBytes ≤ length s → 2 < response → firstCause (askConditions m s response act d p cwd) ≡ some Unknown
-  unfolding askConditions
-  ask-unknown h l u = a-table m _ h ∙ cause-passes NoSpace _ (le-ltb _ _ l) ∙ cause-holds Unknown _ (lt-ltb _ _ u)
+refused-by : (c : Result Decision) (n : ℕ) {cause : Refusal} → settledAs c n ≡ settled-as.Refused cause → c ≡ refused cause
+unfolding settledAs
+refused-by (refused cause) n e = cc
+refused-by (ok decision) n e = let z : _≡_ {A = ℕ} 0 1 = cc in absurd (omega arith)
 
-  module _ {known : PromptResponse} (R : Ready m s response known) where
-    to-given : firstCause (askConditions m s response act d p cwd) ≡ firstCause (actConditions (tableOf m) act d p cwd)
-    unfolding askConditions
-    to-given = a-table m _ (R .holding) ∙ cause-passes NoSpace _ (le-ltb _ _ (R .room)) ∙ cause-passes Unknown _ (le-ltb _ _ (response-known _ _ (R .read) .0))
+-- the decision that the code's answer speaks of
+pub record Told (c : Result Decision) (state : PermissionState) (asked writes : Bool) : Type 0 where
+  pub decision : Decision
+  pub is : c ≡ ok decision
+  pub state-is : state ≡ decision .state
+  pub asked-is : asked ≡ decision .asked
+  pub writes-is : writes ≡ decision .writes
 
-    pub ask-refused : {cause : Refusal} → firstCause (givenConditions d p cwd) ≡ some cause
-        → firstCause (askConditions m s response act d p cwd) ≡ some cause
-    unfolding actConditions
-    ask-refused {cause} e = to-given ∙ cause-append-some (givenConditions d p cwd) _ cause e
+told-by : (c : Result Decision) (n : ℕ) {k : ℕ} {state : PermissionState} {asked writes : Bool} → settledAs c n ≡ settled-as.Decided state asked writes k
+    → Told c state asked writes × (k ≡ n)
+unfolding settledAs
+told-by (refused cause) n e = let z : _≡_ {A = ℕ} 0 1 = cc in absurd (omega arith)
+told-by (ok decision) n e = (record { decision = decision; is = refl; state-is = cc; asked-is = cc; writes-is = cc }, cc)
 
-    pub ask-free : firstCause (givenConditions d p cwd) ≡ none → firstCause (askConditions m s response act d p cwd) ≡ fullCause (tableOf m) act
-    unfolding actConditions fullCause
-    ask-free e = to-given ∙ cause-append-none (givenConditions d p cwd) _ e
+record IsOk (g : Result Query) : Type 0 where
+  query : Query
+  is : g ≡ ok query
 
--- ---- what is handed on: the path as given and resolved, or none
+given-ok : (g : Result Query) (f : Query → Result Decision) {decision : Decision} → andThen g f ≡ ok decision → IsOk g
+unfolding andThen
+given-ok (refused cause) f e = let z : _≡_ {A = ℕ} 0 1 = cc in absurd (omega arith)
+given-ok (ok q) f e = record { query = q; is = refl }
 
--- the bytes g and q lent beside d stand for the path p as given and for the resolved path
-pub record Stands (d : Descriptor) (p cwd g q : List ℕ) : Type 0 where
-  pub free : firstCause (givenConditions d p cwd) ≡ none
-  pub query : queryOf d q ≡ queryOf d (resolve p cwd)
-  pub text : textOf d g q ≡ textOf d p (resolve p cwd)
+-- what is given is resolved where a call is decided
+pub decided-stands : (call : Call) (numbers : Numbering) (t : Table) (d : Descriptor) (p cwd : List ℕ) (response : PromptResponse) (s : List ℕ)
+    {decision : Decision} → settled call numbers t d p cwd response ≡ ok decision → Stands d p cwd (givenSize d p cwd) (givenInto d p cwd s)
+unfolding settled
+decided-stands call numbers t d p cwd response s e = given-stands d p cwd s (given-ok (given d p cwd) _ e .is)
 
--- with no path, any bytes do
-module _ (d : Descriptor) (p cwd g q : List ℕ) (e : d ≡ NoPath) where
-  no-path-text : (p q g r : List ℕ) → textOf d p q ≡ textOf d g r
-  unfolding textOf
-  no-path-text p q g r = rw e
+module _ {call : Call} {numbers : Numbering} {m : List ℕ} {d : Descriptor} {p cwd : List ℕ} {response : PromptResponse} {s m′ s′ : List ℕ} {r : Settled}
+    (S : Settles call numbers m d p cwd response s m′ s′ r) where
+  pub settled-refused : {cause : Refusal} → r ≡ settled-as.Refused cause → settled call numbers (tableOf m) d p cwd response ≡ refused cause
+  settled-refused e = refused-by (settled call numbers (tableOf m) d p cwd response) _ (sym (S .answer) ∙ e)
 
-  pub stands-none : Stands d p cwd g q
-  stands-none = record {
-    free = no-path-free d p cwd e;
-    query = no-path-same d q (resolve p cwd) e;
-    text = no-path-text g q p (resolve p cwd);
-  }
+  module _ {state : PermissionState} {asked writes : Bool} {n : ℕ} (e : r ≡ settled-as.Decided state asked writes n) where
+    pub settled-told : Told (settled call numbers (tableOf m) d p cwd response) state asked writes
+    settled-told = told-by (settled call numbers (tableOf m) d p cwd response) _ (sym (S .answer) ∙ e) .0
 
-given-short : {p cwd : List ℕ} {n : ℕ} → Given p cwd n → length p ≤ maxPath
-unfolding pathConditions
-given-short g = ltb-false _ _ (no-cause-head _ _ _ (no-cause-tail _ _ _ (g .free)))
+    pub settled-stands : Stands d p cwd n s′
+    settled-stands =
+        rw (told-by (settled call numbers (tableOf m) d p cwd response) _ (sym (S .answer) ∙ e) .1, S .bytes)
+        (decided-stands call numbers (tableOf m) d p cwd response s (settled-told .is))
 
--- with a path, the part of the lent space that resolving wrote
-module _ {p cwd space after : List ℕ} {answer : Resolution} {n : ℕ} (A : Resolves p cwd space answer after) (e : answer ≡ Resolved n) where
-  given : Given p cwd n
-  given = resolution-resolved p cwd n (sym (A .answer) ∙ e)
+-- ---- the checking order of check and request
 
-  part : take n after ≡ resolve p cwd
-  part = given-space p cwd space after n given (A .bytes)
+module _ (call : Call) (numbers : Numbering) (m s : List ℕ) (d : Descriptor) (p cwd : List ℕ) (response : ℕ) where
+  pub ask-no-table : holds m ≡ false
+      → askCall call numbers m s d p cwd response ≡ refused NoTable
+  unfolding askCall andThen
+  ask-no-table h = rw (no-table m h)
 
-  pub part-room : n ≤ length after
-  part-room = given-room p cwd space after n given (A .bytes)
+  module _ (h : holds m ≡ true) where
+    pub ask-no-space : length s < textBytes
+        → askCall call numbers m s d p cwd response ≡ refused NoSpace
+    unfolding askCall andThen textSpace firstCause unless
+    ask-no-space l = rw (a-table m h, lt-ltb _ _ l)
 
-  pub stands-path : {d : Descriptor} → d ≡ Path → Stands d p cwd p (take n after)
-  stands-path {d} f = record { free = path-causes d p cwd f ∙ given .free; query = ap (queryOf d) part; text = ap (textOf d p) part }
+    module _ (room : textBytes ≤ length s) where
+      pub ask-unknown : responseOf response ≡ Unknown
+          → askCall call numbers m s d p cwd response ≡ refused refusal.Unknown
+      unfolding askCall andThen textSpace firstCause unless knownResponse
+      ask-unknown u = rw (a-table m h, le-ltb _ _ room, u)
 
-  pub asked-path : {m s : List ℕ} {response : ℕ} {known : PromptResponse} {d : Descriptor} → Ready m s response known → Asked m s d p (take n after)
-  asked-path R = record {
-    holding = R .holding;
-    room = R .room;
-    given = given-short given;
-    short = omega (arith, length-take-le n after part-room, given .short);
-    entry = λ f. entry-handed 0 n G p cwd (take n after) given (unfold kindFrom in refl) part;
-  }
+      pub ask-known : (known : PromptResponse) → responseOf response ≡ Response known
+          → askCall call numbers m s d p cwd response ≡ settled call numbers (tableOf m) d p cwd known
+      unfolding askCall andThen textSpace firstCause unless knownResponse
+      ask-known known u = rw (a-table m h, le-ltb _ _ room, u)
 
-pub path-refused : {p cwd space after : List ℕ} {answer : Resolution} {cause : Refusal} {d : Descriptor}
-    → Resolves p cwd space answer after → answer ≡ Refused cause → d ≡ Path → firstCause (givenConditions d p cwd) ≡ some cause
-path-refused {p} {cwd} A e f = path-causes _ p cwd f ∙ resolution-refused p cwd _ (sym (A .answer) ∙ e)
+-- ---- what the call answers and leaves
 
-pub asked-none : {m s : List ℕ} {response : ℕ} {known : PromptResponse} {d : Descriptor} → Ready m s response known → d ≡ NoPath
-    → Asked m s d [] []
-asked-none R e = record {
-  holding = R .holding;
-  room = R .room;
-  given = omega arith;
-  short = omega arith;
-  entry = λ f. let z : _≡_ {A = ℕ} 0 1 = cc in absurd (omega arith);
-}
+text-same : {d : Descriptor} {p cwd : List ℕ} {n : ℕ} {s : List ℕ} → Stands d p cwd n s → textOf d p (take n s) ≡ textOf d p (resolve p cwd)
+text-same {d = NoPath} S = unfold textOf in refl
+text-same {d = Path} {p = p} S = ap (textOf Path p) (S .bytes refl)
+
+pub text-room : {d : Descriptor} {p cwd : List ℕ} {n : ℕ} {s t : List ℕ} → textBytes ≤ length t → Stands d p cwd n s → HasText d p s n t
+text-room h S = record { room = h; inside = S .room; short = S .short; brief = S .brief }
+
+module _ {call : Call} {m s : List ℕ} {d : Descriptor} {p cwd : List ℕ} {response : ℕ} where
+  pub asks-refused : {cause : Refusal} {m′ : List ℕ} {r : Asked} → askCall call Plain m s d p cwd response ≡ refused cause → r ≡ refusedAsk cause → m′ ≡ m
+      → Asks call m s d p cwd response m′ s r
+  unfolding answerIn askedIn textDue textIn actsIn doActs begun
+  asks-refused e f q = rw f (record { answer = rw e; asked = rw e; size = rw e; space = rw e; memory = rw e q })
+
+  module _ {known : PromptResponse} (e : askCall call Plain m s d p cwd response ≡ settled call Plain (tableOf m) d p cwd known)
+      {z m′ z′ : List ℕ} {r : Settled} (S : Settles call Plain m d p cwd known z m′ z′ r) where
+    pub asks-stopped : {cause : Refusal} {a : Asked} → r ≡ settled-as.Refused cause → a ≡ refusedAsk cause → Asks call m s d p cwd response m′ s a
+    unfolding actsIn doActs
+    asks-stopped f g = asks-refused (e ∙ settled-refused S f) g (S .memory ∙ rw (settled-refused S f))
+
+    pub asks-finished : {state : PermissionState} {asked writes : Bool} {n : ℕ} {s′ : List ℕ} {a : Asked} → r ≡ settled-as.Decided state asked writes n
+        → Finishes state asked writes d p (take n z′) s s′ a → Asks call m s d p cwd response m′ s′ a
+    unfolding answerIn askedIn textDue textIn
+    asks-finished f F =
+        let T = settled-told S f in
+        let text = text-same (settled-stands S f) in
+        record {
+          answer = rw (e, T .is) (F .answer ∙ ap answer.State (T .state-is));
+          asked = rw (e, T .is) (F .told ∙ T .asked-is);
+          size = rw (e, T .is, ← T .writes-is, ← text) (F .size);
+          space = rw (e, T .is, ← T .writes-is, ← text) (F .space);
+          memory = rw e (S .memory);
+        }
+
+-- ---- how long its text is
+
+cut-short : (b : Bool) (text : List ℕ) → length text ≤ textBytes → length (cond b text []) ≤ textBytes
+cut-short true text h = h
+cut-short false text h = omega arith
+
+stands-short : (d : Descriptor) (p cwd : List ℕ) {n : ℕ} {s : List ℕ} → Stands d p cwd n s → length (textOf d p (resolve p cwd)) ≤ textBytes
+unfolding textOf
+stands-short NoPath p cwd S = omega arith
+stands-short Path p cwd {n} {s} S =
+    length-text Path p (resolve p cwd) (S .brief refl) (omega (arith, ap length (S .bytes refl), length-take-le n s (S .room), S .short))
+
+due-short : (call : Call) (d : Descriptor) (p cwd : List ℕ) (t : Table) (known : PromptResponse) (c : Result Decision)
+    → settled call Plain t d p cwd known ≡ c → length (textDue c d p cwd) ≤ textBytes
+unfolding textDue textIn
+due-short call d p cwd t known (refused cause) e = omega arith
+due-short call d p cwd t known (ok decision) e =
+    cut-short (decision .writes) _ (stands-short d p cwd (decided-stands call Plain t d p cwd known [] e))
+
+step-short : {A : Type 0} (d : Descriptor) (p cwd : List ℕ) (a : Result A) (f : A → Result Decision)
+    → ((x : A) → length (textDue (f x) d p cwd) ≤ textBytes) → length (textDue (andThen a f) d p cwd) ≤ textBytes
+unfolding andThen
+step-short d p cwd (refused cause) f h = unfold textDue textIn in omega arith
+step-short d p cwd (ok x) f h = h x
+
+pub ask-short : {call : Call} {m s : List ℕ} {d : Descriptor} {p cwd : List ℕ} {response : ℕ} {m′ s′ : List ℕ} {r : Asked}
+    → Asks call m s d p cwd response m′ s′ r → r .text ≤ textBytes
+unfolding askCall
+ask-short {call} {m} {s} {d} {p} {cwd} {response} A =
+    rw (A .size)
+    (step-short d p cwd (tableIn m) _ (λ t.
+    step-short d p cwd (textSpace s) _ (λ space.
+    step-short d p cwd (knownResponse (responseOf response)) _ (λ known. due-short call d p cwd t known _ refl))))
+
+-- ---- revoke
+
+module _ {numbers : Numbering} {m m′ : List ℕ} {q : Query} {o : Outcome} (C : CarriesOut numbers (revokeDesc (tableOf m) q .act) m m′ o) where
+  pub revoke-refused : {cause : Refusal} → o ≡ Refused cause → RevokesQuery numbers q m m′ (answer.Refused cause)
+  unfolding answerIn
+  revoke-refused e = record { answer = rw (carried-stops (revokeDesc (tableOf m) q) C e); memory = carried-memory _ C }
+
+  pub revoke-state : {state : PermissionState} → o ≡ Done → state ≡ revokeDesc (tableOf m) q .state → RevokesQuery numbers q m m′ (answer.State state)
+  unfolding answerIn
+  revoke-state e f = record { answer = rw (carried-goes (revokeDesc (tableOf m) q) C e) (ap answer.State f); memory = carried-memory _ C }
+
+-- the act of the code's action, whose path is lent beside it
+pub revoke-carries : (t : Table) (q : Query) {numbers : Numbering} {a : Option Act} {m m′ : List ℕ} {o : Outcome} → a ≡ some (revokeAct q)
+    → CarriesOut numbers a m m′ o → CarriesOut numbers (revokeDesc t q .act) m m′ o
+unfolding revokeDesc
+revoke-carries t q e C = rw e at C
+
+-- the query asks the table that the act leaves
+module _ (q : Query) {numbers : Numbering} {m m′ : List ℕ} {o : Outcome} (h : holds m ≡ true) (f : isQuery q ≡ true)
+    (C : CarriesOut numbers (revokeDesc (tableOf m) q .act) m m′ o) where
+  pub revoke-asks : holds m′ ≡ true
+  unfolding revokeDesc fits
+  revoke-asks = carried-held C h (revoke-fits q f)
+
+  pub revoke-after : {state : PermissionState} → o ≡ Done → state ≡ queryDesc (tableOf m′) TreatAsPartialGranted q → state ≡ revokeDesc (tableOf m) q .state
+  unfolding revokeDesc fits actsOf applyActs
+  revoke-after e s =
+      let left = acted-carried numbers m (some (revokeAct q)) h (revoke-fits q f) in
+      s ∙ ap (λ (t : Table). queryDesc t TreatAsPartialGranted q) (ap tableOf (C .memory) ∙ rw (carried-done C e) (rw (carried-done C e) at (left .table)))
+
+module _ {m : List ℕ} {d : Descriptor} {p cwd : List ℕ} where
+  pub revokes-no-table : holds m ≡ false → Revokes m d p cwd m (answer.Refused NoTable)
+  unfolding revokeCall andThen answerIn actsIn doActs
+  revokes-no-table h = record { answer = rw (no-table m h); memory = rw (no-table m h) }
+
+  module _ (h : holds m ≡ true) {s s′ : List ℕ} {r : Resolution} (G : Gives d p cwd s r s′) where
+    pub revokes-refused : {cause : Refusal} → r ≡ resolution.Refused cause → Revokes m d p cwd m (answer.Refused cause)
+    unfolding revokeCall andThen answerIn actsIn doActs
+    revokes-refused e = record { answer = rw (a-table m h, gives-refused G e); memory = rw (a-table m h, gives-refused G e) }
+
+    pub revokes-query : {n : ℕ} {m′ : List ℕ} {a : Answer} → r ≡ resolution.Resolved n → RevokesQuery Plain (queryOf d (take n s′)) m m′ a
+        → Revokes m d p cwd m′ a
+    unfolding revokeCall andThen
+    revokes-query e Q =
+        let S = gives-stands G e in
+        record { answer = rw (a-table m h, S .query) (Q .answer); memory = rw (a-table m h, S .query) (Q .memory) }

@@ -1,11 +1,15 @@
--- What check and request decide on fits a table, where a path that is asked about can be an entry's. Callers cite the laws at the end and `grant-fits`.
-use Prim.Native.Nat.{ℕ, _+_, _/_, _%_, _≤_}
+-- What check, request and revoke decide on can be carried out and recorded, where a path that is asked about is in resolved form and within its limit.
 use mathlib.Core.Path.{_≡_, refl}
-use mathlib.Core.List.{List}
-use mathlib.Core.Option.{some}
-use mathlib.Core.Bool.{Bool, true, false, cond}
+use mathlib.Core.Bool.{true}
 use native.Mathlib.Omega.{arith}
-use borrow.Author.Tests.{le-leb, eqb-false}
+use borrow.Author.Tests.{le-leb}
+use Rattle.paths.specs.Giving.{Query, noPath, path, isQuery}
+use Rattle.table.specs.Tables.{Table, has, granted, promptDenied, prompt, isEntry, isTable}
+use Rattle.table.specs.Acts.{isAct}
+use Rattle.table.specs.Carrying.{fits}
+use Rattle.table.proofs.BitLaws.{set-limit}
+use Rattle.table.proofs.TableLaws.{valid-parts}
+use Rattle.walk.proofs.WalkLaws.{either}
 use Rattle.walk.specs.declared.PermissionState.{PermissionState}
 use Rattle.walk.specs.declared.PermissionState.the-variants.{
   Granted,
@@ -15,121 +19,88 @@ use Rattle.walk.specs.declared.PermissionState.the-variants.{
   DeniedPartial,
   Ignored,
 }
-use Rattle.walk.specs.declared.Descriptor.{Descriptor}
-use Rattle.walk.specs.declared.Descriptor.the-variants.{NoPath, Path}
-use Rattle.walk.specs.Walk.{queryOf, queryDesc, isAllowAll}
-use Rattle.table.specs.declared.Kind.the-variants.{G}
-use Rattle.table.specs.Tables.{Table, has, setBit, granted, promptDenied, prompt, maxSwitches, isEntry, isTable}
-use Rattle.table.proofs.TableLaws.{valid-parts}
+use Rattle.walk.specs.Walk.{isAllowAll}
 use Rattle.calls.specs.declared.PromptResponse.{PromptResponse}
 use Rattle.calls.specs.declared.PromptResponse.the-variants.{Deny, Allow, AllowAll}
-use Rattle.calls.specs.declared.CheckDecided.{CheckDecided}
-use Rattle.calls.specs.declared.RequestDecided.{RequestDecided}
+use Rattle.calls.specs.declared.Call.{Call}
+use Rattle.calls.specs.declared.Call.the-variants.{Check, Request}
 use Rattle.calls.specs.Decisions.{
   switchOn,
   grantAct,
   denyAct,
   answerAct,
-  passes,
-  fails,
-  checkAsks,
+  Decision,
+  unasked,
+  asks,
   checkBy,
   checkDesc,
-  returns,
-  requestAsks,
   requestBy,
   requestDesc,
-  actOf,
-  CheckDecides,
-  RequestDecides,
-  actFits,
+  decide,
 }
+use Rattle.calls.specs.Calls.{revokeAct}
 
--- ---- the switches stay within their limit
-
-pub switch-limit : (n bit : ℕ) (b : Bool) → has n bit ≡ b → n ≤ maxSwitches → ((n / bit % 2 ≡ 1 → ⊥) → n + bit ≤ maxSwitches) → setBit n bit ≤ maxSwitches
-unfolding setBit has
-switch-limit n bit true e h k = rw e h
-switch-limit n bit false e h k = rw e (k (eqb-false _ _ e))
+-- ---- each act
 
 module _ (t : Table) (v : isTable t ≡ true) where
-  granted-fits : actFits (some (switchOn t granted)) ≡ true
-  unfolding actFits switchOn
-  granted-fits =
-      let h = valid-parts t v .switches in
-      le-leb _ _ (switch-limit (t .switches) granted (has (t .switches) granted) refl h (λ k. omega arith))
+  granted-fits : isAct (switchOn t granted) ≡ true
+  unfolding isAct switchOn
+  granted-fits = le-leb _ _ (set-limit (t .switches) granted _ (valid-parts t v .switches) (λ k. let h = valid-parts t v .switches in omega arith))
 
-  prompt-denied-fits : actFits (some (switchOn t promptDenied)) ≡ true
-  unfolding actFits switchOn
-  prompt-denied-fits =
-      let h = valid-parts t v .switches in
-      le-leb _ _ (switch-limit (t .switches) promptDenied (has (t .switches) promptDenied) refl h (λ k. omega arith))
+  prompt-denied-fits : isAct (switchOn t promptDenied) ≡ true
+  unfolding isAct switchOn
+  prompt-denied-fits = le-leb _ _ (set-limit (t .switches) promptDenied _ (valid-parts t v .switches) (λ k. let h = valid-parts t v .switches in omega arith))
 
-  -- ---- each act
+  pub grant-fits : (q : Query) → isQuery q ≡ true → isAct (grantAct t q) ≡ true
+  unfolding isQuery
+  grant-fits noPath e = unfold grantAct in granted-fits
+  grant-fits (path q) e = unfold grantAct isAct isEntry in e
 
-  module _ (q : List ℕ) where
-    pub grant-fits : (d : Descriptor) → (d ≡ Path → isEntry (record { kind = G; path = q }) ≡ true) → actFits (some (grantAct t (queryOf d q))) ≡ true
-    grant-fits NoPath e = unfold grantAct queryOf in granted-fits
-    grant-fits Path e = unfold grantAct queryOf actFits in e refl
+  deny-fits : (q : Query) → isQuery q ≡ true → isAct (denyAct t q) ≡ true
+  unfolding isQuery
+  deny-fits noPath e = unfold denyAct in prompt-denied-fits
+  deny-fits (path q) e = unfold denyAct isAct isEntry in e
 
-    deny-fits : (d : Descriptor) → (d ≡ Path → isEntry (record { kind = G; path = q }) ≡ true) → actFits (some (denyAct t (queryOf d q))) ≡ true
-    deny-fits NoPath e = unfold denyAct queryOf in prompt-denied-fits
-    deny-fits Path e = unfold denyAct queryOf actFits isEntry in e refl
+  answer-fits : (q : Query) → isQuery q ≡ true → (response : PromptResponse) → isAct (answerAct t q response) ≡ true
+  unfolding answerAct
+  answer-fits q e Allow = grant-fits q e
+  answer-fits q e AllowAll = granted-fits
+  answer-fits q e Deny = deny-fits q e
 
-    module _ (d : Descriptor) (e : d ≡ Path → isEntry (record { kind = G; path = q }) ≡ true) where
-      answer-fits : (response : PromptResponse) → actFits (some (answerAct t (queryOf d q) response)) ≡ true
-      unfolding answerAct
-      answer-fits Allow = grant-fits d e
-      answer-fits AllowAll = granted-fits
-      answer-fits Deny = deny-fits d e
+pub revoke-fits : (q : Query) → isQuery q ≡ true → isAct (revokeAct q) ≡ true
+unfolding isQuery revokeAct isAct
+revoke-fits noPath e = refl
+revoke-fits (path q) e = e
 
-      check-prompt-fits : (b : Bool) (response : PromptResponse)
-          → actFits (cond b (checkAsks t (queryOf d q) response) (fails Prompt) .act) ≡ true
-      unfolding checkAsks fails actFits
-      check-prompt-fits true response = answer-fits response
-      check-prompt-fits false response = refl
+-- ---- each decision
 
-      checked-fits : (state : PermissionState) (response : PromptResponse) → actFits (checkBy t (queryOf d q) response state .act) ≡ true
-      unfolding checkBy passes fails actFits
-      checked-fits Granted response = refl
-      checked-fits GrantedPartial response = refl
-      checked-fits Prompt response = check-prompt-fits (has (t .switches) prompt) response
-      checked-fits Denied response = refl
-      checked-fits DeniedPartial response = refl
-      checked-fits Ignored response = refl
+abbrev Fits : Decision → Type 0
+Fits decision = fits (decision .act) ≡ true
 
-      request-prompt-fits : (b : Bool) (response : PromptResponse)
-          → actFits (cond b (requestAsks t (queryOf d q) response) (returns Denied) .act) ≡ true
-      unfolding requestAsks returns actFits
-      request-prompt-fits true response = answer-fits response
-      request-prompt-fits false response = refl
+module _ (t : Table) (v : isTable t ≡ true) (q : Query) (e : isQuery q ≡ true) (response : PromptResponse) where
+  asks-fits : fits (asks t q response .act) ≡ true
+  unfolding asks fits
+  asks-fits = answer-fits t v q e response
 
-      requested-fits : (state : PermissionState) (response : PromptResponse) → actFits (requestBy t (queryOf d q) response state .act) ≡ true
-      unfolding requestBy returns actFits
-      requested-fits Granted response = grant-fits d e
-      requested-fits GrantedPartial response = refl
-      requested-fits Prompt response = request-prompt-fits (has (t .switches) prompt) response
-      requested-fits Denied response = refl
-      requested-fits DeniedPartial response = refl
-      requested-fits Ignored response = refl
+  checked-fits : (state : PermissionState) → fits (checkBy t q response state .act) ≡ true
+  unfolding checkBy unasked fits
+  checked-fits Granted = refl
+  checked-fits GrantedPartial = refl
+  checked-fits Prompt = either Fits (has (t .switches) prompt) _ _ asks-fits refl
+  checked-fits Denied = refl
+  checked-fits DeniedPartial = refl
+  checked-fits Ignored = refl
 
-      checked-or-passed : (b : Bool) (state : PermissionState) (response : PromptResponse)
-          → actFits (cond b passes (checkBy t (queryOf d q) response state) .act) ≡ true
-      unfolding passes actFits
-      checked-or-passed true state response = refl
-      checked-or-passed false state response = checked-fits state response
+  requested-fits : (state : PermissionState) → fits (requestBy t q response state .act) ≡ true
+  unfolding requestBy unasked fits
+  requested-fits Granted = grant-fits t v q e
+  requested-fits GrantedPartial = refl
+  requested-fits Prompt = either Fits (has (t .switches) prompt) _ _ asks-fits refl
+  requested-fits Denied = refl
+  requested-fits DeniedPartial = refl
+  requested-fits Ignored = refl
 
-      -- what a check decides on fits
-      pub check-act-fits : (response : PromptResponse) → actFits (checkDesc t (queryOf d q) response .act) ≡ true
-      unfolding checkDesc
-      check-act-fits response = checked-or-passed (isAllowAll t) _ response
-
-      pub check-fits : (response : PromptResponse) (r : CheckDecided) → CheckDecides (checkDesc t (queryOf d q) response) q r
-          → actFits (actOf (r .action) q) ≡ true
-      check-fits response r D = rw (D .act) (check-act-fits response)
-
-      -- and so does what a request decides on
-      pub request-fits : (response : PromptResponse) (r : RequestDecided) → RequestDecides (requestDesc t (queryOf d q) response) q r
-          → actFits (actOf (r .action) q) ≡ true
-      unfolding requestDesc
-      request-fits response r D = rw (D .act) (requested-fits (queryDesc t _ (queryOf d q)) response)
+  pub decided-fits : (call : Call) → fits (decide call t q response .act) ≡ true
+  unfolding decide checkDesc requestDesc unasked fits
+  decided-fits Check = either Fits (isAllowAll t) _ _ refl (checked-fits _)
+  decided-fits Request = requested-fits _

@@ -9,10 +9,12 @@ use lib.ListN.{length, getD, length-append}
 use lib.Dec.{eqb}
 use Rattle.paths.specs.Components.{slash}
 use Rattle.paths.specs.Resolving.{isAbsolute}
-use Rattle.paths.specs.Copying.{overwrite}
+use Rattle.paths.specs.Copying.{overwrite, begun}
 use Rattle.table.proofs.Overwrites.{over-above}
-use Rattle.walk.specs.declared.Descriptor.{Descriptor}
-use Rattle.walk.specs.declared.Descriptor.the-variants.{NoPath, Path}
+use Rattle.paths.specs.declared.Descriptor.{Descriptor}
+use Rattle.paths.specs.declared.Descriptor.the-variants.{NoPath, Path}
+use Rattle.walk.specs.declared.PermissionState.{PermissionState}
+use Rattle.walk.specs.declared.Answer.the-variants as answer
 use Rattle.calls.specs.Texts.{
   readAccess,
   to,
@@ -24,9 +26,8 @@ use Rattle.calls.specs.Texts.{
   ends,
   formatDisplayName,
   textOf,
-  Appends,
-  Writes,
 }
+use Rattle.calls.specs.Asking.{Appends, Writes, Finishes}
 
 -- ---- the first byte and the last
 
@@ -105,7 +106,7 @@ name-quoted name e h a b c = rw e (appends-more (omega arith) (appends-more (ome
 
 writes : (d : Descriptor) (given resolved : List ℕ) {m m′ : List ℕ} {r : ℕ} → Appends (textOf d given resolved) m 0 m′ r
     → Writes d given resolved m m′ r
-unfolding overwrite
+unfolding overwrite begun
 writes d given resolved {m} a = record {
   size = omega (arith, a .end);
   bytes = a .bytes ∙ rw zero-add;
@@ -156,3 +157,15 @@ length-text Path given resolved h k =
       length-name (displayName given resolved),
       length-shown given resolved h k,
     )
+
+-- ---- the answer of a call that is decided
+
+module _ {state : PermissionState} {asked writes : Bool} {d : Descriptor} {given resolved s : List ℕ} where
+  pub finishes-written : {s′ : List ℕ} {n : ℕ} → writes ≡ true → Writes d given resolved s s′ n
+      → Finishes state asked writes d given resolved s s′ (record { answer = answer.State state; asked = asked; text = n })
+  finishes-written e W = rw e (record { answer = refl; told = refl; size = W .size; space = W .bytes })
+
+pub finishes-silent : {state : PermissionState} {asked writes : Bool} {d : Descriptor} (given resolved s : List ℕ) → writes ≡ false
+    → Finishes state asked writes d given resolved s s (record { answer = answer.State state; asked = asked; text = 0 })
+unfolding begun
+finishes-silent given resolved s e = rw e (record { answer = refl; told = refl; size = refl; space = refl })

@@ -1,19 +1,14 @@
 -- What check and request decide, from the table, what is asked about and the operator's answer. Document 01, "A call comes in".
 -- A decision changes nothing: the act in it, if there is one, is still to be carried out.
 use Prim.Native.Nat.{ℕ, zero, suc}
-use mathlib.Core.Path.{_≡_}
-use mathlib.Core.List.{List}
 use mathlib.Core.Option.{Option, none, some}
-use mathlib.Core.Bool.{Bool, true, false, not, cond}
-use lib.Dec.{leb}
-use Rattle.calls.specs.declared.PromptResponse.{PromptResponse}
-use Rattle.calls.specs.declared.PromptResponse.the-variants.{Deny, Allow, AllowAll}
-use Rattle.calls.specs.declared.Verdict.{Verdict}
-use Rattle.calls.specs.declared.Verdict.the-variants.{Passed, Failed}
-use Rattle.calls.specs.declared.Action.{Action}
-use Rattle.calls.specs.declared.Action.the-variants.{Nothing, InsertGranted, InsertPromptDenied, SetSwitches}
-use Rattle.calls.specs.declared.CheckDecided.{CheckDecided}
-use Rattle.calls.specs.declared.RequestDecided.{RequestDecided}
+use mathlib.Core.Bool.{Bool, true, false, cond}
+use Rattle.refusals.specs.declared.Refusal.the-variants as refusal
+use Rattle.refusals.specs.Refusals.{Result, refused, ok}
+use Rattle.paths.specs.Giving.{Query, noPath, path}
+use Rattle.table.specs.declared.Kind.the-variants.{G, P}
+use Rattle.table.specs.Tables.{Table, has, setBit, granted, promptDenied, prompt}
+use Rattle.table.specs.Acts.{Act, insert, setSwitches}
 use Rattle.walk.specs.declared.PermissionState.{PermissionState}
 use Rattle.walk.specs.declared.PermissionState.the-variants.{
   Granted,
@@ -25,11 +20,13 @@ use Rattle.walk.specs.declared.PermissionState.the-variants.{
 }
 use Rattle.walk.specs.declared.AllowPartial.{AllowPartial}
 use Rattle.walk.specs.declared.AllowPartial.the-variants.{TreatAsDenied, TreatAsPartialGranted, TreatAsGranted}
-use Rattle.walk.specs.Walk.{Query, noPath, path, queryDesc, isAllowAll}
-use Rattle.table.specs.declared.Kind.the-variants.{G, P}
-use Rattle.table.specs.Tables.{Table, has, setBit, granted, promptDenied, prompt, maxSwitches, isEntry}
-use Rattle.table.specs.Acts.{Act, insert, setSwitches, revoke, revokeAll, overflows, applyAct}
-use Rattle.table.specs.Memory.{tableOf, put}
+use Rattle.walk.specs.Walk.{queryDesc, isAllowAll}
+use Rattle.calls.specs.declared.PromptResponse.{PromptResponse}
+use Rattle.calls.specs.declared.PromptResponse.the-variants.{Deny, Allow, AllowAll}
+use Rattle.calls.specs.declared.ResponseRead.{ResponseRead}
+use Rattle.calls.specs.declared.ResponseRead.the-variants.{Response, Unknown}
+use Rattle.calls.specs.declared.Call.{Call}
+use Rattle.calls.specs.declared.Call.the-variants.{Check, Request}
 
 -- ---- the operator's answer: 0 Deny, 1 Allow, 2 AllowAll
 
@@ -38,11 +35,17 @@ responseNumber Deny = 0
 responseNumber Allow = 1
 responseNumber AllowAll = 2
 
--- the answer of a known number; a call with a number above 2 is refused
-unfoldable pub responseFrom : ℕ → PromptResponse
-responseFrom zero = Deny
-responseFrom (suc zero) = Allow
-responseFrom (suc (suc n)) = AllowAll
+-- the answer that a number names; none has a number above 2
+unfoldable pub responseOf : ℕ → ResponseRead
+responseOf zero = Response Deny
+responseOf (suc zero) = Response Allow
+responseOf (suc (suc zero)) = Response AllowAll
+responseOf (suc (suc (suc n))) = Unknown
+
+-- 3 where it names none
+unfoldable pub knownResponse : ResponseRead → Result PromptResponse
+knownResponse (Response response) = ok response
+knownResponse Unknown = refused refusal.Unknown
 
 -- ---- acts
 
@@ -66,120 +69,76 @@ answerAct t q Allow = grantAct t q
 answerAct t q AllowAll = switchOn t granted
 answerAct t q Deny = denyAct t q
 
--- ---- check
+-- ---- decisions
 
--- what a check comes to, whether the operator was asked, and the act
-pub record CheckDecision : Type 0 where
-  pub verdict : Verdict
+-- the state that a call comes to, Granted where a check passes and else what it fails with; whether the operator was asked; whether a text is
+-- due; and the act
+pub record Decision : Type 0 where
+  pub state : PermissionState
   pub asked : Bool
+  pub writes : Bool
   pub act : Option Act
+
+-- a check passes where it comes to Granted
+unfoldable pub passes : PermissionState → Bool
+passes Granted = true
+passes GrantedPartial = false
+passes Prompt = false
+passes Denied = false
+passes DeniedPartial = false
+passes Ignored = false
+
+-- nobody is asked, and nothing is done
+unfoldable pub unasked : PermissionState → Bool → Decision
+unasked state writes = record { state = state; asked = false; writes = writes; act = none }
+
+-- either yes passes; Deny fails with Denied
+unfoldable pub stateBy : PromptResponse → PermissionState
+stateBy Allow = Granted
+stateBy AllowAll = Granted
+stateBy Deny = Denied
+
+-- the operator is asked, and a text is written
+unfoldable pub asks : Table → Query → PromptResponse → Decision
+asks t q response = record { state = stateBy response; asked = true; writes = true; act = some (answerAct t q response) }
+
+-- ---- check
 
 -- with a path the mode is denied, with none (`check_all_api`) granted
 unfoldable pub checkMode : Query → AllowPartial
 checkMode noPath = TreatAsGranted
 checkMode (path q) = TreatAsDenied
 
-unfoldable pub verdictBy : PromptResponse → Verdict
-verdictBy Allow = Passed
-verdictBy AllowAll = Passed
-verdictBy Deny = Failed Denied
-
-unfoldable pub passes : CheckDecision
-passes = record { verdict = Passed; asked = false; act = none }
-
-unfoldable pub fails : PermissionState → CheckDecision
-fails state = record { verdict = Failed state; asked = false; act = none }
-
-unfoldable pub checkAsks : Table → Query → PromptResponse → CheckDecision
-checkAsks t q response = record { verdict = verdictBy response; asked = true; act = some (answerAct t q response) }
-
--- Granted passes; Prompt with switch 16 asks; else it fails with the state
-unfoldable pub checkBy : Table → Query → PromptResponse → PermissionState → CheckDecision
-checkBy t q response Granted = passes
-checkBy t q response GrantedPartial = fails GrantedPartial
-checkBy t q response Prompt = cond (has (t .switches) prompt) (checkAsks t q response) (fails Prompt)
-checkBy t q response Denied = fails Denied
-checkBy t q response DeniedPartial = fails DeniedPartial
-checkBy t q response Ignored = fails Ignored
+-- Granted passes; Prompt with switch 16 asks; else it fails with the state, and a text is written
+unfoldable pub checkBy : Table → Query → PromptResponse → PermissionState → Decision
+checkBy t q response Granted = unasked Granted false
+checkBy t q response GrantedPartial = unasked GrantedPartial true
+checkBy t q response Prompt = cond (has (t .switches) prompt) (asks t q response) (unasked Prompt true)
+checkBy t q response Denied = unasked Denied true
+checkBy t q response DeniedPartial = unasked DeniedPartial true
+checkBy t q response Ignored = unasked Ignored true
 
 -- a check passes without a walk where every query is granted
-unfoldable pub checkDesc : Table → Query → PromptResponse → CheckDecision
-checkDesc t q response = cond (isAllowAll t) passes (checkBy t q response (queryDesc t (checkMode q) q))
+unfoldable pub checkDesc : Table → Query → PromptResponse → Decision
+checkDesc t q response = cond (isAllowAll t) (unasked Granted false) (checkBy t q response (queryDesc t (checkMode q) q))
 
 -- ---- request
 
--- the state that is returned, whether the operator was asked, and the act
-pub record RequestDecision : Type 0 where
-  pub state : PermissionState
-  pub asked : Bool
-  pub act : Option Act
-
-unfoldable pub stateBy : PromptResponse → PermissionState
-stateBy Allow = Granted
-stateBy AllowAll = Granted
-stateBy Deny = Denied
-
-unfoldable pub returns : PermissionState → RequestDecision
-returns state = record { state = state; asked = false; act = none }
-
-unfoldable pub requestAsks : Table → Query → PromptResponse → RequestDecision
-requestAsks t q response = record { state = stateBy response; asked = true; act = some (answerAct t q response) }
-
 -- Granted inserts G; Prompt without switch 16 returns Denied, and with it asks; any other state is returned as it is
-unfoldable pub requestBy : Table → Query → PromptResponse → PermissionState → RequestDecision
-requestBy t q response Granted = record { state = Granted; asked = false; act = some (grantAct t q) }
-requestBy t q response GrantedPartial = returns GrantedPartial
-requestBy t q response Prompt = cond (has (t .switches) prompt) (requestAsks t q response) (returns Denied)
-requestBy t q response Denied = returns Denied
-requestBy t q response DeniedPartial = returns DeniedPartial
-requestBy t q response Ignored = returns Ignored
+unfoldable pub requestBy : Table → Query → PromptResponse → PermissionState → Decision
+requestBy t q response Granted = record { state = Granted; asked = false; writes = false; act = some (grantAct t q) }
+requestBy t q response GrantedPartial = unasked GrantedPartial false
+requestBy t q response Prompt = cond (has (t .switches) prompt) (asks t q response) (unasked Denied false)
+requestBy t q response Denied = unasked Denied false
+requestBy t q response DeniedPartial = unasked DeniedPartial false
+requestBy t q response Ignored = unasked Ignored false
 
 -- a request queries in mode partial
-unfoldable pub requestDesc : Table → Query → PromptResponse → RequestDecision
+unfoldable pub requestDesc : Table → Query → PromptResponse → Decision
 requestDesc t q response = requestBy t q response (queryDesc t TreatAsPartialGranted q)
 
--- ---- an act as the code has it: without its path, which is lent beside it
+-- ---- either
 
-unfoldable pub actOf : Action → List ℕ → Option Act
-actOf Nothing q = none
-actOf InsertGranted q = some (insert (record { kind = G; path = q }))
-actOf InsertPromptDenied q = some (insert (record { kind = P; path = q }))
-actOf (SetSwitches v) q = some (setSwitches v)
-
--- what the code decided, with the path q lent beside it, is this decision
-pub record CheckDecides (decision : CheckDecision) (q : List ℕ) (r : CheckDecided) : Type 0 where
-  pub verdict : r .verdict ≡ decision .verdict
-  pub asked : r .asked ≡ decision .asked
-  pub act : actOf (r .action) q ≡ decision .act
-
-pub record RequestDecides (decision : RequestDecision) (q : List ℕ) (r : RequestDecided) : Type 0 where
-  pub state : r .state ≡ decision .state
-  pub asked : r .asked ≡ decision .asked
-  pub act : actOf (r .action) q ≡ decision .act
-
--- ---- carrying out an act, if there is one
-
--- what is inserted is an entry, and the switches are known ones
-unfoldable pub actFits : Option Act → Bool
-actFits none = true
-actFits (some (insert e)) = isEntry e
-actFits (some (setSwitches v)) = leb v maxSwitches
-actFits (some (revoke q)) = true
-actFits (some revokeAll) = true
-
--- an insert finds no room
-unfoldable pub actOverflows : Table → Option Act → Bool
-actOverflows t none = false
-actOverflows t (some (insert e)) = overflows t e
-actOverflows t (some (setSwitches v)) = false
-actOverflows t (some (revoke q)) = false
-actOverflows t (some revokeAll) = false
-
-unfoldable pub applied : Table → Option Act → Table
-applied t none = t
-applied t (some a) = applyAct t a
-
--- memory m is m′ after the act: false, and nothing changes, where it overflows
-pub record CarriesOut (m m′ : List ℕ) (act : Option Act) (done : Bool) : Type 0 where
-  pub answer : done ≡ not (actOverflows (tableOf m) act)
-  pub memory : m′ ≡ cond (actOverflows (tableOf m) act) m (put (applied (tableOf m) act) m)
+unfoldable pub decide : Call → Table → Query → PromptResponse → Decision
+decide Check t q response = checkDesc t q response
+decide Request t q response = requestDesc t q response

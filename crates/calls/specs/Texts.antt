@@ -1,14 +1,11 @@
 -- Texts: written when the operator is asked and when a check fails. Document 01, "A call comes in".
-use Prim.Native.Nat.{ℕ, _+_}
-use mathlib.Core.Path.{_≡_}
+use Prim.Native.Nat.{ℕ}
 use mathlib.Core.List.{List, [], _∷_, _++_}
 use mathlib.Core.Bool.{Bool, false, _&&_, cond}
 use lib.Dec.{eqb}
-use lib.ListN.{length, drop}
 use Rattle.paths.specs.Resolving.{isAbsolute}
-use Rattle.paths.specs.Copying.{overwrite}
-use Rattle.walk.specs.declared.Descriptor.{Descriptor}
-use Rattle.walk.specs.declared.Descriptor.the-variants.{NoPath, Path}
+use Rattle.paths.specs.declared.Descriptor.{Descriptor}
+use Rattle.paths.specs.declared.Descriptor.the-variants.{NoPath, Path}
 
 -- `read access`
 abbrev pub readAccess : List ℕ
@@ -48,15 +45,3 @@ formatDisplayName name = cond (begins opening name && ends closing name) name (q
 unfoldable pub textOf : Descriptor → List ℕ → List ℕ → List ℕ
 textOf NoPath given resolved = readAccess
 textOf Path given resolved = readAccess ++ to ++ formatDisplayName (displayName given resolved)
-
--- ---- writing
-
--- s is written from `at` on, and r is where it ends
-pub record Appends (s before : List ℕ) (at : ℕ) (after : List ℕ) (r : ℕ) : Type 0 where
-  pub end : r ≡ at + length s
-  pub bytes : after ≡ overwrite before at s
-
--- the text stands at the start of the lent space, r is its length, and what lies behind it is as it was
-pub record Writes (d : Descriptor) (given resolved before after : List ℕ) (r : ℕ) : Type 0 where
-  pub size : r ≡ length (textOf d given resolved)
-  pub bytes : after ≡ textOf d given resolved ++ drop (length (textOf d given resolved)) before

@@ -1,73 +1,54 @@
 // What check and request decide, from a table in lent memory and the operator's answer. Document 01, "A call comes in".
 // Nothing changes here: the act that is decided on is still to be carried out.
-use crate::Action;
-use crate::CheckDecided;
+use crate::Call;
+use crate::Decided;
 use crate::PromptResponse;
-use crate::RequestDecided;
-use crate::Verdict;
+use paths::Descriptor;
+use table::Action;
+use table::GRANTED;
+use table::Kind;
+use table::PROMPT;
+use table::PROMPT_DENIED;
+use table::bits::set_bit;
+use table::reading::has_switch;
+use table::reading::switches;
 use walk::AllowPartial;
-use walk::Descriptor;
 use walk::PermissionState;
-use walk::walking::has;
-use walk::walking::has_switch;
 use walk::walking::is_allow_all;
 use walk::walking::query_desc;
 ghost use mathlib.Core.Path.{_≡_};
 ghost use mathlib.Core.Bool.{true};
 ghost use mathlib.Core.List.{List};
 ghost use mathlib.Core.Option.{some};
-ghost use Prim.Native.Nat.{ℕ, _+_, _<_, _≤_};
-ghost use Rattle.table.specs.Tables.{setBit};
+ghost use Prim.Native.Nat.{ℕ, _<_, _≤_};
+ghost use Rattle.paths.specs.Giving.{queryOf};
 ghost use Rattle.table.specs.Memory.{tableOf, holds};
-ghost use Rattle.walk.specs.Walk.{queryOf};
+ghost use Rattle.table.specs.Carrying.{actOf};
 ghost use Rattle.calls.specs.Decisions.{
   switchOn,
   grantAct,
   denyAct,
   answerAct,
+  stateBy,
+  unasked,
+  asks,
   checkMode,
-  verdictBy,
-  passes,
-  fails,
-  checkAsks,
   checkBy,
   checkDesc,
-  stateBy,
-  returns,
-  requestAsks,
   requestBy,
   requestDesc,
-  actOf,
-  CheckDecides,
-  RequestDecides,
+  decide,
 };
-
-// Switches.
-const GRANTED: u8 = 1;
-
-const PROMPT_DENIED: u8 = 8;
-
-const PROMPT: u8 = 16;
+ghost use Rattle.calls.specs.Asking.{Decides};
 
 // ---- acts
-
-// The switches with one of them set, and the others as they are.
-pub fn switch_on(switches: u8, bit: u8) -> u8
-    requires { ⌜ (0 < bit) × (switches + bit < 256) ⌝ }
-    ensures { λ r. ⌜ r ≡ setBit switches bit ⌝ }
-{
-    if has(switches, bit) {
-        return switches;
-    }
-    switches + bit
-}
 
 // Sets a switch in the table.
 fn switch_action(mem: &[u8], bit: u8) -> Action
     requires { ⌜ (holds (now mem) ≡ true) × (0 < bit) × (bit ≤ 16) ⌝ }
     ensures { λ r. ⌜ ((q : List ℕ) → actOf r q ≡ some (switchOn (tableOf (now (mem .entry))) bit)) ⌝ }
 {
-    Action::SetSwitches(switch_on(mem[2], bit))
+    Action::SetSwitches(set_bit(switches(mem), bit))
 }
 
 // A yes.
@@ -77,7 +58,7 @@ pub fn grant_action(mem: &[u8], d: Descriptor) -> Action
 {
     match d {
         Descriptor::NoPath => switch_action(mem, GRANTED),
-        Descriptor::Path => Action::InsertGranted,
+        Descriptor::Path => Action::Insert(Kind::G),
     }
 }
 
@@ -88,12 +69,12 @@ fn deny_action(mem: &[u8], d: Descriptor) -> Action
 {
     match d {
         Descriptor::NoPath => switch_action(mem, PROMPT_DENIED),
-        Descriptor::Path => Action::InsertPromptDenied,
+        Descriptor::Path => Action::Insert(Kind::P),
     }
 }
 
 // The act that an answer makes; AllowAll is a yes with no path.
-pub fn answer_action(mem: &[u8], d: Descriptor, response: PromptResponse) -> Action
+fn answer_action(mem: &[u8], d: Descriptor, response: PromptResponse) -> Action
     requires { ⌜ holds (now mem) ≡ true ⌝ }
     ensures { λ r. ⌜ ((q : List ℕ) → actOf r q ≡ some (answerAct (tableOf (now (mem .entry))) (queryOf d q) response)) ⌝ }
 {
@@ -101,6 +82,44 @@ pub fn answer_action(mem: &[u8], d: Descriptor, response: PromptResponse) -> Act
         PromptResponse::Deny => deny_action(mem, d),
         PromptResponse::Allow => grant_action(mem, d),
         PromptResponse::AllowAll => grant_action(mem, Descriptor::NoPath),
+    }
+}
+
+// ---- the two ways to decide
+
+// Without asking: a state, and perhaps a text.
+fn unasked(state: PermissionState, writes: bool) -> Decided
+    ensures { λ r. ⌜ ((q : List ℕ) → Decides (unasked state writes) q r) ⌝ }
+{
+    Decided {
+        state,
+        asked: false,
+        writes,
+        action: Action::Nothing,
+    }
+}
+
+// What a call comes to by an answer.
+fn state_by(response: PromptResponse) -> PermissionState
+    ensures { λ r. ⌜ r ≡ stateBy response ⌝ }
+{
+    match response {
+        PromptResponse::Deny => PermissionState::Denied,
+        PromptResponse::Allow => PermissionState::Granted,
+        PromptResponse::AllowAll => PermissionState::Granted,
+    }
+}
+
+// By the operator's answer.
+fn asks(mem: &[u8], d: Descriptor, response: PromptResponse) -> Decided
+    requires { ⌜ holds (now mem) ≡ true ⌝ }
+    ensures { λ r. ⌜ ((q : List ℕ) → Decides (asks (tableOf (now (mem .entry))) (queryOf d q) response) q r) ⌝ }
+{
+    Decided {
+        state: state_by(response),
+        asked: true,
+        writes: true,
+        action: answer_action(mem, d, response),
     }
 }
 
@@ -116,83 +135,33 @@ fn check_mode(d: Descriptor) -> AllowPartial
     }
 }
 
-// What a check comes to by an answer.
-fn verdict_by(response: PromptResponse) -> Verdict
-    ensures { λ r. ⌜ r ≡ verdictBy response ⌝ }
-{
-    match response {
-        PromptResponse::Deny => Verdict::Failed(PermissionState::Denied),
-        PromptResponse::Allow => Verdict::Passed,
-        PromptResponse::AllowAll => Verdict::Passed,
-    }
-}
-
-// A check that passes without asking.
-fn passes() -> CheckDecided
-    ensures { λ r. ⌜ ((q : List ℕ) → CheckDecides passes q r) ⌝ }
-{
-    CheckDecided {
-        verdict: Verdict::Passed,
-        asked: false,
-        action: Action::Nothing,
-    }
-}
-
-// A check that fails without asking.
-fn fails(state: PermissionState) -> CheckDecided
-    ensures { λ r. ⌜ ((q : List ℕ) → CheckDecides (fails state) q r) ⌝ }
-{
-    CheckDecided {
-        verdict: Verdict::Failed(state),
-        asked: false,
-        action: Action::Nothing,
-    }
-}
-
-// A check that asks.
-fn check_asks(mem: &[u8], d: Descriptor, response: PromptResponse) -> CheckDecided
-    requires { ⌜ holds (now mem) ≡ true ⌝ }
-    ensures { λ r. ⌜ ((q : List ℕ) → CheckDecides (checkAsks (tableOf (now (mem .entry))) (queryOf d q) response) q r) ⌝ }
-{
-    CheckDecided {
-        verdict: verdict_by(response),
-        asked: true,
-        action: answer_action(mem, d, response),
-    }
-}
-
 // A check, by the state of what is asked about.
-fn check_by(
-    mem: &[u8],
-    d: Descriptor,
-    response: PromptResponse,
-    state: PermissionState,
-) -> CheckDecided
+fn check_by(mem: &[u8], d: Descriptor, response: PromptResponse, state: PermissionState) -> Decided
     requires { ⌜ holds (now mem) ≡ true ⌝ }
-    ensures { λ r. ⌜ ((q : List ℕ) → CheckDecides (checkBy (tableOf (now (mem .entry))) (queryOf d q) response state) q r) ⌝ }
+    ensures { λ r. ⌜ ((q : List ℕ) → Decides (checkBy (tableOf (now (mem .entry))) (queryOf d q) response state) q r) ⌝ }
 {
     match state {
-        PermissionState::Granted => passes(),
-        PermissionState::GrantedPartial => fails(state),
+        PermissionState::Granted => unasked(state, false),
+        PermissionState::GrantedPartial => unasked(state, true),
         PermissionState::Prompt => {
             if has_switch(mem, PROMPT) {
-                return check_asks(mem, d, response);
+                return asks(mem, d, response);
             }
-            fails(state)
+            unasked(state, true)
         }
-        PermissionState::Denied => fails(state),
-        PermissionState::DeniedPartial => fails(state),
-        PermissionState::Ignored => fails(state),
+        PermissionState::Denied => unasked(state, true),
+        PermissionState::DeniedPartial => unasked(state, true),
+        PermissionState::Ignored => unasked(state, true),
     }
 }
 
 // What a check decides; where every query is granted it passes without a walk.
-pub fn check_desc(mem: &[u8], d: Descriptor, q: &[u8], response: PromptResponse) -> CheckDecided
+fn check_desc(mem: &[u8], d: Descriptor, q: &[u8], response: PromptResponse) -> Decided
     requires { ⌜ holds (now mem) ≡ true ⌝ }
-    ensures { λ r. ⌜ CheckDecides (checkDesc (tableOf (now (mem .entry))) (queryOf d (now (q .entry))) response) (now (q .entry)) r ⌝ }
+    ensures { λ r. ⌜ Decides (checkDesc (tableOf (now (mem .entry))) (queryOf d (now (q .entry))) response) (now (q .entry)) r ⌝ }
 {
     if is_allow_all(mem) {
-        return passes();
+        return unasked(PermissionState::Granted, false);
     }
     let state = query_desc(mem, check_mode(d), d, q);
     check_by(mem, d, response, state)
@@ -200,74 +169,60 @@ pub fn check_desc(mem: &[u8], d: Descriptor, q: &[u8], response: PromptResponse)
 
 // ---- request
 
-// What a request returns by an answer.
-fn state_by(response: PromptResponse) -> PermissionState
-    ensures { λ r. ⌜ r ≡ stateBy response ⌝ }
-{
-    match response {
-        PromptResponse::Deny => PermissionState::Denied,
-        PromptResponse::Allow => PermissionState::Granted,
-        PromptResponse::AllowAll => PermissionState::Granted,
-    }
-}
-
-// A request that returns a state without asking, and does nothing.
-fn returned(state: PermissionState) -> RequestDecided
-    ensures { λ r. ⌜ ((q : List ℕ) → RequestDecides (returns state) q r) ⌝ }
-{
-    RequestDecided {
-        state,
-        asked: false,
-        action: Action::Nothing,
-    }
-}
-
-// A request that asks.
-fn request_asks(mem: &[u8], d: Descriptor, response: PromptResponse) -> RequestDecided
-    requires { ⌜ holds (now mem) ≡ true ⌝ }
-    ensures { λ r. ⌜ ((q : List ℕ) → RequestDecides (requestAsks (tableOf (now (mem .entry))) (queryOf d q) response) q r) ⌝ }
-{
-    RequestDecided {
-        state: state_by(response),
-        asked: true,
-        action: answer_action(mem, d, response),
-    }
-}
-
 // A request, by the state of what is asked about.
 fn request_by(
     mem: &[u8],
     d: Descriptor,
     response: PromptResponse,
     state: PermissionState,
-) -> RequestDecided
+) -> Decided
     requires { ⌜ holds (now mem) ≡ true ⌝ }
-    ensures { λ r. ⌜ ((q : List ℕ) → RequestDecides (requestBy (tableOf (now (mem .entry))) (queryOf d q) response state) q r) ⌝ }
+    ensures { λ r. ⌜ ((q : List ℕ) → Decides (requestBy (tableOf (now (mem .entry))) (queryOf d q) response state) q r) ⌝ }
 {
     match state {
-        PermissionState::Granted => RequestDecided {
+        PermissionState::Granted => Decided {
             state,
             asked: false,
+            writes: false,
             action: grant_action(mem, d),
         },
-        PermissionState::GrantedPartial => returned(state),
+        PermissionState::GrantedPartial => unasked(state, false),
         PermissionState::Prompt => {
-            if !has_switch(mem, PROMPT) {
-                return returned(PermissionState::Denied);
+            if has_switch(mem, PROMPT) {
+                return asks(mem, d, response);
             }
-            request_asks(mem, d, response)
+            unasked(PermissionState::Denied, false)
         }
-        PermissionState::Denied => returned(state),
-        PermissionState::DeniedPartial => returned(state),
-        PermissionState::Ignored => returned(state),
+        PermissionState::Denied => unasked(state, false),
+        PermissionState::DeniedPartial => unasked(state, false),
+        PermissionState::Ignored => unasked(state, false),
     }
 }
 
 // What a request decides; it queries in mode partial.
-pub fn request_desc(mem: &[u8], d: Descriptor, q: &[u8], response: PromptResponse) -> RequestDecided
+fn request_desc(mem: &[u8], d: Descriptor, q: &[u8], response: PromptResponse) -> Decided
     requires { ⌜ holds (now mem) ≡ true ⌝ }
-    ensures { λ r. ⌜ RequestDecides (requestDesc (tableOf (now (mem .entry))) (queryOf d (now (q .entry))) response) (now (q .entry)) r ⌝ }
+    ensures { λ r. ⌜ Decides (requestDesc (tableOf (now (mem .entry))) (queryOf d (now (q .entry))) response) (now (q .entry)) r ⌝ }
 {
     let state = query_desc(mem, AllowPartial::TreatAsPartialGranted, d, q);
     request_by(mem, d, response, state)
+}
+
+// ---- either
+
+// What a call decides of what is resolved.
+pub(crate) fn decide(
+    mem: &[u8],
+    call: Call,
+    d: Descriptor,
+    q: &[u8],
+    response: PromptResponse,
+) -> Decided
+    requires { ⌜ holds (now mem) ≡ true ⌝ }
+    ensures { λ r. ⌜ Decides (decide call (tableOf (now (mem .entry))) (queryOf d (now (q .entry))) response) (now (q .entry)) r ⌝ }
+{
+    match call {
+        Call::Check => check_desc(mem, d, q, response),
+        Call::Request => request_desc(mem, d, q, response),
+    }
 }

@@ -1,13 +1,16 @@
 // The calls check, request and revoke, with their texts. Each decides first and then carries its act out. The definitions are in specs/.
 use refusals::Refusal;
+use table::Action;
 use walk::Answer;
 use walk::PermissionState;
 
-pub mod calling;
-pub mod carrying;
+pub mod asking;
 pub mod deciding;
 pub mod revoking;
 pub mod texts;
+
+// The bytes that a text can take: `read access to `, a name of 1,024 bytes and two quotes.
+pub const TEXT_BYTES: usize = 1041;
 
 // The operator's answer, with the Rust's names: document 01's Deny, Allow and AllowAll, in its order.
 pub enum PromptResponse {
@@ -22,55 +25,31 @@ pub enum ResponseRead {
     Unknown,
 }
 
-// What a check comes to.
-pub enum Verdict {
-    Passed,
-    Failed(PermissionState),
+// The calls that may ask the operator. They differ in their decision alone.
+pub enum Call {
+    Check,
+    Request,
 }
 
-// The act that a call decides on, without its path, which is lent beside it.
-pub enum Action {
-    Nothing,
-    InsertGranted,
-    InsertPromptDenied,
-    SetSwitches(u8),
-}
-
-// What a check decides: what it comes to, whether the operator was asked, and the act that is still to be carried out.
-pub struct CheckDecided {
-    pub verdict: Verdict,
-    pub asked: bool,
-    pub action: Action,
-}
-
-// What a request decides: the state that it returns, whether the operator was asked, and the act that is still to be carried out.
-pub struct RequestDecided {
+// What a call decides: the state that it comes to, Granted where a check passes; whether the operator was asked; whether a text is due; and
+// the act that is still to be carried out.
+pub struct Decided {
     pub state: PermissionState,
     pub asked: bool,
+    pub writes: bool,
     pub action: Action,
 }
 
-// How the last steps of a call end: no room for the entry, or done, with the length of the text.
-pub enum Finish {
-    Full,
-    Done(usize),
-}
-
-// What the call check answers: what it comes to, or why it is refused.
-pub enum CheckAnswer {
-    Decided(Verdict),
+// What a call comes to whose act is carried out: why it is refused, or its state, whether the operator was asked, whether a text is due, and
+// how many bytes the resolved path has.
+pub enum Settled {
     Refused(Refusal),
+    Decided(PermissionState, bool, bool, usize),
 }
 
-// The call check: its answer, whether the operator was asked, and how many bytes of the text space hold the text.
-pub struct Checked {
-    pub answer: CheckAnswer,
-    pub asked: bool,
-    pub text: usize,
-}
-
-// The call request: a state or why it is refused, whether the operator was asked, and how many bytes of the text space hold the text.
-pub struct Requested {
+// What check and request answer: a state, Granted where a check passes, or why the call is refused; whether the operator was asked; and how
+// many bytes of the text space hold the text.
+pub struct Asked {
     pub answer: Answer,
     pub asked: bool,
     pub text: usize,

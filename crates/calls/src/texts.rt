@@ -1,11 +1,12 @@
 // The texts: written when the operator is asked and when a check fails.
+use paths::Descriptor;
 use paths::copying::copy_in;
-use walk::Descriptor;
 ghost use mathlib.Core.Path.{_≡_};
 ghost use mathlib.Core.Bool.{_&&_};
 ghost use Prim.Native.Nat.{_+_, _≤_};
-ghost use lib.ListN.{length};
-ghost use Rattle.calls.specs.Texts.{opening, closing, displayName, begins, ends, formatDisplayName, Appends, Writes};
+ghost use lib.ListN.{length, take};
+ghost use Rattle.calls.specs.Texts.{opening, closing, displayName, begins, ends, formatDisplayName};
+ghost use Rattle.calls.specs.Asking.{Appends, HasText, Writes};
 
 // Whether a path begins with a byte.
 fn begins_with(p: &[u8], b: u8) -> bool
@@ -28,12 +29,13 @@ fn ends_with(p: &[u8], b: u8) -> bool
     p[n - 1] == b
 }
 
-// The name that is shown: a relative path as it was given, else the resolved path.
-pub fn display_name<'a>(given: &'a [u8], resolved: &'a [u8]) -> &'a [u8]
-    ensures { λ r. ⌜ now r ≡ displayName (now (given .entry)) (now (resolved .entry)) ⌝ }
+// The name that is shown: a relative path as it was given, else the resolved path, which is the first n bytes of the space `resolved`.
+fn display_name<'a>(given: &'a [u8], resolved: &'a [u8], n: usize) -> &'a [u8]
+    requires { ⌜ n ≤ length (now resolved) ⌝ }
+    ensures { λ r. ⌜ now r ≡ displayName (now (given .entry)) (take n (now (resolved .entry))) ⌝ }
 {
     if begins_with(given, b'/') {
-        return resolved;
+        return &resolved[..n];
     }
     given
 }
@@ -71,16 +73,22 @@ fn append_name(space: &mut [u8], at: usize, name: &[u8]) -> usize
 }
 
 // Writes the text of what is asked about from the space's start on, and says how long it is.
-pub fn write_text<'a>(space: &mut [u8], d: Descriptor, given: &'a [u8], resolved: &'a [u8]) -> usize
-    requires { ⌜ (1041 ≤ length (now space)) × (length (now given) ≤ 1024) × (length (now resolved) ≤ 1024) ⌝ }
-    ensures { λ r. ⌜ Writes d (now (given .entry)) (now (resolved .entry)) (now (space .entry)) (now (space .exit)) r ⌝ }
+pub(crate) fn write_text<'a>(
+    space: &mut [u8],
+    d: Descriptor,
+    given: &'a [u8],
+    resolved: &'a [u8],
+    n: usize,
+) -> usize
+    requires { ⌜ HasText d (now given) (now resolved) n (now space) ⌝ }
+    ensures { λ r. ⌜ Writes d (now (given .entry)) (take n (now (resolved .entry))) (now (space .entry)) (now (space .exit)) r ⌝ }
 {
     let end = append(space, 0, b"read access");
     match d {
         Descriptor::NoPath => end,
         Descriptor::Path => {
             let at = append(space, end, b" to ");
-            append_name(space, at, display_name(given, resolved))
+            append_name(space, at, display_name(given, resolved, n))
         }
     }
 }

@@ -1,48 +1,64 @@
 -- Laws of what a child call is handed: codes, answers and end positions, one after the other.
 use Prim.Native.Nat.{ℕ, zero, suc, _+_, _≤_, _<_}
-use mathlib.Core.Path.{_≡_, refl}
+use mathlib.Core.Path.{_≡_, refl, sym, ap}
 use mathlib.Core.List.{List, [], _∷_}
-use mathlib.Core.Bool.{true, false}
+use mathlib.Core.Bool.{true, false, _&&_, false≢true}
 use native.Mathlib.Omega.{arith}
+use native.Mathlib.Nat.{not-suc-le-zero, le-of-suc-le-suc}
 use native.Mathlib.Numerals.{add-one}
 use lib.ListN.{length, getD, drop, drop-of-length-le}
 use lib.Seq.{drop-cons}
 use lib.Dec.{eqb, leb}
 use borrow.Author.Tests.{le-leb, lt-leb, leb-true, eqb-true}
+use Rattle.refusals.specs.declared.Refusal.the-variants as refusal
+use Rattle.refusals.specs.Refusals.{firstCause, Result, refused, ok, andThen, unless}
 use Rattle.paths.proofs.ComponentLaws.{and-left, and-right}
-use Rattle.calls.specs.declared.PromptResponse.the-variants.{AllowAll}
-use Rattle.calls.specs.Decisions.{responseFrom}
+use Rattle.calls.specs.declared.PromptResponse.{PromptResponse}
+use Rattle.calls.specs.declared.ResponseRead.{ResponseRead}
+use Rattle.calls.specs.declared.ResponseRead.the-variants as response-read
+use Rattle.calls.specs.Decisions.{responseOf, knownResponse}
 use Rattle.child.specs.declared.ChildUnaryPermissionArg.{ChildUnaryPermissionArg}
 use Rattle.child.specs.declared.ChildUnaryPermissionArg.the-variants.{Inherit, Granted, NotGranted, GrantedList}
-use Rattle.child.specs.Arguments.{codeNumber, argFrom, areResponses, closeAt, responsesDue, itemsFit, isKnown}
+use Rattle.child.specs.declared.ArgRead.the-variants.{Arg, Unknown}
+use Rattle.child.specs.Arguments.{
+  codeNumber,
+  argOf,
+  knownArg,
+  knownResponses,
+  itemsOf,
+  closeAt,
+  responsesDue,
+  itemsFit,
+  areInOrder,
+  Arguments,
+  argumentsOf,
+}
+use Rattle.child.specs.Steps.{isResponse, areResponses, Listed}
 
--- ---- numbers at their limit
+-- ---- child codes
 
 -- each argument is the one that its code names
-pub arg-numbered : (arg : ChildUnaryPermissionArg) → argFrom (codeNumber arg) ≡ arg
-unfolding argFrom
+pub arg-numbered : (arg : ChildUnaryPermissionArg) → argOf (codeNumber arg) ≡ Arg arg
+unfolding argOf
 arg-numbered Inherit = refl
 arg-numbered Granted = refl
 arg-numbered NotGranted = refl
 arg-numbered GrantedList = refl
 
-pub arg-last : (n : ℕ) → 2 < n → argFrom n ≡ GrantedList
-unfolding argFrom
-arg-last zero h = absurd (omega arith)
-arg-last (suc zero) h = absurd (omega arith)
-arg-last (suc (suc zero)) h = absurd (omega arith)
-arg-last (suc (suc (suc n))) h = refl
-
-pub response-last : (n : ℕ) → 1 < n → responseFrom n ≡ AllowAll
-unfolding responseFrom
-response-last zero h = absurd (omega arith)
-response-last (suc zero) h = absurd (omega arith)
-response-last (suc (suc n)) h = refl
+pub arg-unknown : (n : ℕ) → 3 < n → argOf n ≡ Unknown
+unfolding argOf
+arg-unknown zero h = absurd (omega arith)
+arg-unknown (suc zero) h = absurd (omega arith)
+arg-unknown (suc (suc zero)) h = absurd (omega arith)
+arg-unknown (suc (suc (suc zero))) h = absurd (omega arith)
+arg-unknown (suc (suc (suc (suc n)))) h = refl
 
 -- ---- what is still to come begins with the element at i
 
 pub drop-next : (s : List ℕ) (i : ℕ) → i < length s → drop i s ≡ getD s i 0 ∷ drop (i + 1) s
 drop-next s i h = rw (add-one, drop-cons s i 0)
+
+-- ---- answers
 
 module _ (s : List ℕ) (i : ℕ) where
   pub responses-end : length s ≤ i → areResponses (drop i s) ≡ true
@@ -50,13 +66,80 @@ module _ (s : List ℕ) (i : ℕ) where
   responses-end h = rw (drop-of-length-le s h)
 
   module _ (h : i < length s) where
-    pub responses-unknown : 2 < getD s i 0 → areResponses (drop i s) ≡ false
-    unfolding areResponses
-    responses-unknown k = rw (drop-next s i h, lt-leb (getD s i 0) 2 k)
+    pub responses-unknown : responseOf (getD s i 0) ≡ response-read.Unknown → areResponses (drop i s) ≡ false
+    unfolding areResponses isResponse
+    responses-unknown e = rw (drop-next s i h, e)
 
-    pub responses-next : getD s i 0 ≤ 2 → areResponses (drop i s) ≡ areResponses (drop (i + 1) s)
-    unfolding areResponses
-    responses-next k = rw (drop-next s i h, le-leb (getD s i 0) 2 k)
+    pub responses-next : {known : PromptResponse} → responseOf (getD s i 0) ≡ response-read.Response known
+        → areResponses (drop i s) ≡ areResponses (drop (i + 1) s)
+    unfolding areResponses isResponse
+    responses-next e = rw (drop-next s i h, e)
+
+-- a place of answers that are all known has one
+pub never-unknown : (s : List ℕ) (i : ℕ) → areResponses s ≡ true → i < length s → responseOf (getD s i 0) ≡ response-read.Unknown → ⊥
+unfolding areResponses isResponse
+never-unknown [] i a h e = not-suc-le-zero h
+never-unknown (n ∷ s) zero a h e = false≢true (rw e at (and-left (isResponse (responseOf n)) _ a))
+never-unknown (n ∷ s) (suc i) a h e = never-unknown s i (and-right (isResponse (responseOf n)) _ a) (le-of-suc-le-suc h) e
+
+-- the answers, read
+pub record Known (s : List ℕ) : Type 0 where
+  pub responses : List PromptResponse
+  pub are : knownResponses s ≡ ok responses
+
+known-more : (r : ResponseRead) (n : ℕ) (s : List ℕ) → responseOf n ≡ r → isResponse r ≡ true → Known s → Known (n ∷ s)
+unfolding isResponse knownResponses knownResponse andThen
+known-more response-read.Unknown n s e h K = absurd (false≢true h)
+known-more (response-read.Response known) n s e h K = record { responses = known ∷ K .responses; are = rw (e, K .are) }
+
+pub all-known : (s : List ℕ) → areResponses s ≡ true → Known s
+unfolding areResponses knownResponses
+all-known [] a = record { responses = []; are = refl }
+all-known (n ∷ s) a =
+    known-more (responseOf n) n s refl (and-left (isResponse (responseOf n)) _ a) (all-known s (and-right (isResponse (responseOf n)) _ a))
+
+unknown-more : (r : ResponseRead) (n : ℕ) (s : List ℕ) → responseOf n ≡ r → isResponse r && areResponses s ≡ false
+    → (areResponses s ≡ false → knownResponses s ≡ refused refusal.Unknown) → knownResponses (n ∷ s) ≡ refused refusal.Unknown
+unfolding isResponse knownResponses knownResponse andThen
+unknown-more response-read.Unknown n s e h k = rw e
+unknown-more (response-read.Response known) n s e h k = rw (e, k h)
+
+pub not-known : (s : List ℕ) → areResponses s ≡ false → knownResponses s ≡ refused refusal.Unknown
+unfolding areResponses
+not-known [] a = absurd (false≢true (sym a))
+not-known (n ∷ s) a = unknown-more (responseOf n) n s refl a (not-known s)
+
+-- ---- answers that are read, one after the other
+
+-- the first answer of those that are read, and the others
+record First (n : ℕ) (s : List ℕ) (known : List PromptResponse) : Type 0 where
+  response : PromptResponse
+  rest : List PromptResponse
+  all : known ≡ response ∷ rest
+  first : responseOf n ≡ response-read.Response response
+  others : knownResponses s ≡ ok rest
+
+first-by : (n : ℕ) (s : List ℕ) (known : List PromptResponse) (r : ResponseRead) (k : Result (List PromptResponse)) → responseOf n ≡ r → knownResponses s ≡ k
+    → andThen (knownResponse r) (λ response. andThen k (λ responses. ok (response ∷ responses))) ≡ ok known → First n s known
+unfolding knownResponse andThen
+first-by n s known response-read.Unknown k e f g = let z : _≡_ {A = ℕ} 0 1 = cc in absurd (omega arith)
+first-by n s known (response-read.Response response) (refused cause) e f g = let z : _≡_ {A = ℕ} 0 1 = cc in absurd (omega arith)
+first-by n s known (response-read.Response response) (ok rest) e f g = record { response = response; rest = rest; all = cc; first = e; others = f }
+
+first-of : (n : ℕ) (s : List ℕ) (known : List PromptResponse) → knownResponses (n ∷ s) ≡ ok known → First n s known
+unfolding knownResponses
+first-of n s known e = first-by n s known (responseOf n) (knownResponses s) refl refl e
+
+pub known-drop : (s : List ℕ) (known : List PromptResponse) (i : ℕ) {response : PromptResponse} → knownResponses s ≡ ok known → i < length s
+    → responseOf (getD s i 0) ≡ response-read.Response response → drop i known ≡ response ∷ drop (i + 1) known
+known-drop [] known i k h e = absurd (not-suc-le-zero h)
+known-drop (n ∷ s) known zero k h e =
+    let F = first-of n s known k in
+    let same : _ = F .first in
+    rw (F .all) (ap (λ r. r ∷ F .rest) (cc))
+known-drop (n ∷ s) known (suc i) k h e =
+    let F = first-of n s known k in
+    rw (F .all, add-one) (rw add-one at (known-drop s (F .rest) i (F .others) (le-of-suc-le-suc h) e))
 
 -- ---- end positions
 
@@ -75,7 +158,7 @@ module _ (n from : ℕ) (s : List ℕ) (i : ℕ) where
     closes-next k = rw (drop-next s i h, le-leb from (getD s i 0) k)
 
 -- end positions that close at n start at most there
-pub closes-within : (n from : ℕ) (ends : List ℕ) → closeAt n from ends ≡ true → from ≤ n
+closes-within : (n from : ℕ) (ends : List ℕ) → closeAt n from ends ≡ true → from ≤ n
 unfolding closeAt
 closes-within n from [] e = omega (arith, eqb-true from n e)
 closes-within n from (end ∷ ends) e =
@@ -87,7 +170,7 @@ pub record Closing (n from end : ℕ) (ends : List ℕ) : Type 0 where
   pub within : end ≤ n
   pub rest : closeAt n end ends ≡ true
 
-pub closing-cons : (n from end : ℕ) (ends : List ℕ) → closeAt n from (end ∷ ends) ≡ true → Closing n from end ends
+closing-cons : (n from end : ℕ) (ends : List ℕ) → closeAt n from (end ∷ ends) ≡ true → Closing n from end ends
 unfolding closeAt
 closing-cons n from end ends e =
     let rest = and-right (leb from end) _ e in
@@ -98,27 +181,56 @@ closing-next n from s i h e = closing-cons n from (getD s i 0) (drop (i + 1) s) 
 
 -- ---- the whole
 
+module _ (arg : ChildUnaryPermissionArg) (bytes ends responses : List ℕ) where
+  pub order-items : itemsFit arg ends ≡ false → false ≡ areInOrder arg bytes ends responses
+  unfolding areInOrder
+  order-items e = rw e
+
+  pub order-ends : itemsFit arg ends ≡ true → closeAt (length bytes) 0 ends ≡ false → false ≡ areInOrder arg bytes ends responses
+  unfolding areInOrder
+  order-ends f e = rw (f, e)
+
+  pub order-due : (due : ℕ) → itemsFit arg ends ≡ true → closeAt (length bytes) 0 ends ≡ true → due ≡ responsesDue arg ends
+      → eqb (length responses) due ≡ areInOrder arg bytes ends responses
+  unfolding areInOrder
+  order-due due f e d = rw (f, e, d)
+
+-- as many answers as are due, and of a list the whole of what it asks
+pub due-many : (arg : ChildUnaryPermissionArg) (bytes ends responses : List ℕ) → areInOrder arg bytes ends responses ≡ true
+    → length responses ≡ responsesDue arg ends
+unfolding areInOrder
+due-many arg bytes ends responses e = eqb-true _ _ (and-right (itemsFit arg ends && closeAt (length bytes) 0 ends) _ e)
+
+pub listed : (arg : ChildUnaryPermissionArg) (bytes ends responses : List ℕ) → arg ≡ GrantedList → areInOrder arg bytes ends responses ≡ true
+    → areResponses responses ≡ true → Listed bytes ends responses
+unfolding areInOrder itemsFit responsesDue
+listed arg bytes ends responses e o a =
+    let order = rw e at o in
+    let front = and-left (itemsFit GrantedList ends && closeAt (length bytes) 0 ends) _ order in
+    record {
+      closes = and-right (itemsFit GrantedList ends) _ front;
+      many = eqb-true _ _ (and-right (itemsFit GrantedList ends && closeAt (length bytes) 0 ends) _ order);
+      few = leb-true _ _ (and-left (itemsFit GrantedList ends) _ front);
+      known = a;
+    }
+
+-- what a call is handed, read in its order
 module _ (code : ℕ) (bytes ends responses : List ℕ) where
-  pub unknown-code : 3 < code → false ≡ isKnown code bytes ends responses
-  unfolding isKnown
-  unknown-code h = rw (lt-leb code 3 h)
+  pub no-arg : argOf code ≡ Unknown → argumentsOf code bytes ends responses ≡ refused refusal.Unknown
+  unfolding argumentsOf knownArg andThen
+  no-arg e = rw e
 
-  module _ (known : code ≤ 3) where
-    pub unknown-responses : areResponses responses ≡ false → false ≡ isKnown code bytes ends responses
-    unfolding isKnown
-    unknown-responses e = rw (le-leb code 3 known, e)
+  module _ {arg : ChildUnaryPermissionArg} (a : argOf code ≡ Arg arg) where
+    pub no-responses : areResponses responses ≡ false → argumentsOf code bytes ends responses ≡ refused refusal.Unknown
+    unfolding argumentsOf knownArg andThen
+    no-responses e = rw (a, not-known responses e)
 
-    module _ (answers : areResponses responses ≡ true) (arg : ChildUnaryPermissionArg) (a : arg ≡ argFrom code) where
-      pub unknown-items : itemsFit arg ends ≡ false → false ≡ isKnown code bytes ends responses
-      unfolding isKnown
-      unknown-items e = rw (le-leb code 3 known, answers, ← a, e)
+    module _ {known : List PromptResponse} (k : knownResponses responses ≡ ok known) where
+      pub no-order : areInOrder arg bytes ends responses ≡ false → argumentsOf code bytes ends responses ≡ refused refusal.Unknown
+      unfolding argumentsOf knownArg andThen firstCause unless
+      no-order e = rw (a, k, e)
 
-      module _ (items : itemsFit arg ends ≡ true) where
-        pub unknown-ends : closeAt (length bytes) 0 ends ≡ false → false ≡ isKnown code bytes ends responses
-        unfolding isKnown
-        unknown-ends e = rw (le-leb code 3 known, answers, ← a, items, e)
-
-        pub known-due : (due : ℕ) → closeAt (length bytes) 0 ends ≡ true → due ≡ responsesDue arg ends
-            → eqb (length responses) due ≡ isKnown code bytes ends responses
-        unfolding isKnown
-        known-due due e d = rw (le-leb code 3 known, answers, ← a, items, e, d)
+      pub in-order : areInOrder arg bytes ends responses ≡ true
+          → argumentsOf code bytes ends responses ≡ ok (record { arg = arg; items = itemsOf arg bytes ends known })
+      unfolding argumentsOf knownArg andThen firstCause unless
+      in-order e = rw (a, k, e)

@@ -1,6 +1,7 @@
-pub mod MakingLaws
 pub mod ArgumentLaws
-pub mod GrantingLaws
+pub mod MakingLaws
+pub mod ItemLaws
 pub mod TakeOverLaws
 pub mod CreatingLaws
 pub mod ChildLaws
+pub mod KeepLaws

@@ -1,149 +1,186 @@
--- Laws of the steps of a child call: a call that is refused goes no further, no act makes a table shorter, and so what several steps put
--- into memory is what the last one puts there.
-use Prim.Native.Nat.{ℕ, _≤_}
-use mathlib.Core.Path.{_≡_, refl, sym, ap, _∙_, subst}
-use mathlib.Core.List.{List, [], _∷_}
+-- Laws of the steps of a child call: one after the other in memory, what the child is granted, one item, and the items in turn.
+use Prim.Native.Nat.{ℕ, _+_}
+use mathlib.Core.Path.{_≡_, refl, sym, ap, subst, _∙_}
+use mathlib.Core.List.{List, [], _∷_, _++_, append-nil}
 use mathlib.Core.Option.{Option, none, some}
 use mathlib.Core.Bool.{Bool, true, false, cond}
 use native.Mathlib.Omega.{arith}
-use lib.ListN.{length}
 use Rattle.refusals.specs.declared.Refusal.{Refusal}
-use Rattle.refusals.specs.declared.Refusal.the-variants.{TableFull}
-use Rattle.table.specs.Entries.{Entry}
-use Rattle.table.specs.Placing.{place}
-use Rattle.table.specs.Tables.{Table, isTable}
-use Rattle.table.specs.Acts.{Act, insert, setSwitches, inserted, applyAct}
-use Rattle.table.specs.Memory.{tableOf, holds, encode, put}
-use Rattle.table.specs.declared.Outcome.the-variants.{Done, Refused}
-use Rattle.table.specs.Calls.{outcomeOf}
-use Rattle.table.proofs.Codec.{Bytes}
-use Rattle.table.proofs.Puts.{left-put, long-of, put-self, put-put, length-after, tableOf-put}
-use Rattle.table.proofs.RevokeLaws.{switched-length}
-use Rattle.calls.specs.Decisions.{actFits, actOverflows, applied}
-use Rattle.calls.proofs.CarryingLaws.{table-applied}
-use Rattle.child.specs.declared.ChildMade.{ChildMade}
-use Rattle.child.specs.Making.{Making, refusedBy, onward, inTurn, childGets}
-use Rattle.child.specs.Calls.{makingOf, Makes}
+use Rattle.refusals.specs.declared.Refusal.the-variants.{TableFull, NumbersUsedUp, Escalation}
+use Rattle.refusals.specs.Refusals.{when, firstCause, Result, refused, ok}
+use Rattle.paths.specs.Giving.{Query, isQuery}
+use Rattle.table.specs.declared.Numbering.the-variants.{Plain}
+use Rattle.table.specs.declared.Outcome.{Outcome}
+use Rattle.table.specs.declared.Outcome.the-variants as outcome
+use Rattle.table.specs.Tables.{Table}
+use Rattle.table.specs.Acts.{Act, isAct, actOverflows, applyAct, applyActs}
+use Rattle.table.specs.Memory.{tableOf, holds, doActs}
+use Rattle.table.specs.Carrying.{usedUp, carryCause, actsOf, outcomeOf, CarriesOut}
+use Rattle.table.proofs.Puts.{valid-of}
+use Rattle.table.proofs.ActLaws.{acts-append, Acted, acted-none, acted-one, outcome-done, outcome-refused}
+use Rattle.walk.specs.declared.PermissionState.{PermissionState}
+use Rattle.calls.specs.Decisions.{Decision, grantAct, passes}
+use Rattle.calls.specs.Calls.{actsIn}
+use Rattle.calls.proofs.FittingLaws.{grant-fits}
+use Rattle.child.specs.Making.{
+  Made,
+  nothing,
+  refusedBy,
+  onward,
+  then,
+  grantedBy,
+  granting,
+  countOf,
+  passedOn,
+  checked,
+  itemBy,
+}
+use Rattle.child.specs.Steps.{MakesChild}
 
--- ---- steps in turn
+-- ---- one step after the other
 
--- a call that is refused goes no further
-pub refused-stays : {A : Type 0} (step : A → Making → Making) (rest : List A) (s : Making) {cause : Refusal} → s .refused ≡ some cause
-    → inTurn step rest s ≡ s
-unfolding inTurn onward
-refused-stays step [] s e = refl
-refused-stays step (a ∷ rest) s e =
-    ap (λ (o : Option Refusal). inTurn step rest (onward o (step a s) s)) e ∙ refused-stays step rest s e
+pub then-stops : (a b : Made) {cause : Refusal} → a .refused ≡ some cause → then a b ≡ a
+unfolding onward
+then-stops a b e = ap (λ (o : Option Refusal). onward o a b) e
 
--- ---- what an outcome tells
+pub then-goes : (a b : Made) → a .refused ≡ none
+    → then a b ≡ record { acts = a .acts ++ b .acts; grants = a .grants ++ b .grants; asked = a .asked + b .asked; refused = b .refused }
+unfolding onward
+then-goes a b e = ap (λ (o : Option Refusal). onward o a b) e
 
-pub outcome-refused : (o : Option Refusal) {cause : Refusal} → outcomeOf o ≡ Refused cause → o ≡ some cause
-unfolding outcomeOf
-outcome-refused none e = let z : _≡_ {A = ℕ} 0 1 = cc in absurd (omega arith)
-outcome-refused (some cause) e = cc
+module _ {a : Made} {c c₁ : List ℕ} {r : Outcome} (A : MakesChild a c c₁ r) where
+  pub makes-stop : (b : Made) {cause : Refusal} → r ≡ outcome.Refused cause → MakesChild (then a b) c c₁ r
+  makes-stop b e = subst (λ (x : Made). MakesChild x c c₁ r) (sym (then-stops a b (outcome-refused (a .refused) (sym (A .outcome) ∙ e)))) A
 
-pub outcome-done : (o : Option Refusal) → outcomeOf o ≡ Done → o ≡ none
-unfolding outcomeOf
-outcome-done none e = refl
-outcome-done (some cause) e = let z : _≡_ {A = ℕ} 0 1 = cc in absurd (omega arith)
+  pub makes-then : {b : Made} {c₂ : List ℕ} {r₂ : Outcome} → r ≡ outcome.Done → MakesChild b c₁ c₂ r₂ → MakesChild (then a b) c c₂ r₂
+  makes-then {b} {c₂} {r₂} e B =
+      let goes = then-goes a b (outcome-done (a .refused) (sym (A .outcome) ∙ e)) in
+      subst (λ (x : Made). MakesChild x c c₂ r₂) (sym goes)
+      (record { outcome = B .outcome; child = B .child ∙ ap (λ (l : List ℕ). doActs l (b .grants)) (A .child) ∙ sym (acts-append c (a .grants) (b .grants)) })
 
--- ---- a table that takes another's place
+-- ---- what the child is granted
 
--- u keeps to the limits, and hides t where it is put over it
-pub record Onto (t u : Table) : Type 0 where
-  pub valid : isTable u ≡ true
-  pub longer : length (encode t) ≤ length (encode u)
+granted-by : (over : Bool) (act : Act) {c c′ : List ℕ} {r : Outcome}
+    → r ≡ outcomeOf (firstCause (when over TableFull ∷ when false NumbersUsedUp ∷ []))
+    → c′ ≡ doActs c (actsOf (firstCause (when over TableFull ∷ when false NumbersUsedUp ∷ [])) (some act))
+    → MakesChild (cond over (refusedBy TableFull) (record { acts = []; grants = act ∷ []; asked = 0; refused = none })) c c′ r
+unfolding firstCause actsOf
+granted-by true act o q = record { outcome = o; child = q }
+granted-by false act o q = record { outcome = o; child = q }
 
-pub onto-self : (t : Table) → isTable t ≡ true → Onto t t
-onto-self t v = record { valid = v; longer = omega arith }
+pub grants-carried : {act : Act} {c c′ : List ℕ} {r : Outcome} → CarriesOut Plain (some act) c c′ r → MakesChild (grantedBy act (tableOf c)) c c′ r
+unfolding grantedBy carryCause usedUp
+grants-carried {act} {c} C = granted-by (actOverflows (tableOf c) act) act (C .outcome) (C .memory)
 
-pub onto-trans : {t u v : Table} → Onto t u → Onto u v → Onto t v
-onto-trans a b = record { valid = b .valid; longer = omega (arith, a .longer, b .longer) }
+granted-acted : (over : Bool) (act : Act) {c : List ℕ} → holds c ≡ true → isAct act ≡ true → actOverflows (tableOf c) act ≡ over
+    → Acted c (cond over (refusedBy TableFull) (record { acts = []; grants = act ∷ []; asked = 0; refused = none }) .grants)
+granted-acted true act {c} h f e = acted-none c h
+granted-acted false act {c} h f e = acted-one c act h f e
 
-pub insert-longer : (t : Table) (e : Entry) → length (encode t) ≤ length (encode (applied t (some (insert e))))
-unfolding applied applyAct inserted
-insert-longer t e = length-after (place (t .entries) e) t e
+pub grant-acted : (act : Act) (c : List ℕ) → holds c ≡ true → isAct act ≡ true → Acted c (grantedBy act (tableOf c) .grants)
+unfolding grantedBy
+grant-acted act c h f = granted-acted (actOverflows (tableOf c) act) act h f refl
 
-pub switches-longer : (t : Table) (v : ℕ) → length (encode t) ≤ length (encode (applied t (some (setSwitches v))))
-unfolding applied
-switches-longer t v = omega (arith, switched-length t v)
+granted-one : (over : Bool) (act : Act) → cond over (refusedBy TableFull) (record { acts = []; grants = act ∷ []; asked = 0; refused = none }) .refused ≡ none
+    → cond over (refusedBy TableFull) (record { acts = []; grants = act ∷ []; asked = 0; refused = none }) .grants ≡ act ∷ []
+granted-one true act e = let z : _≡_ {A = ℕ} 0 1 = cc in absurd (omega arith)
+granted-one false act e = refl
 
--- an act that fits, has room and makes the table no shorter
-pub onto-applied : (t : Table) (a : Option Act) → isTable t ≡ true → actFits a ≡ true → actOverflows t a ≡ false
-    → length (encode t) ≤ length (encode (applied t a)) → Onto t (applied t a)
-onto-applied t a v f o l = record { valid = table-applied t a v f o; longer = l }
+pub grant-one : (act : Act) (u : Table) → grantedBy act u .refused ≡ none → grantedBy act u .grants ≡ act ∷ []
+unfolding grantedBy
+grant-one act u e = granted-one (actOverflows u act) act e
 
--- the child's table gets an act, whether there is room or not
-module _ (act : Act) (s : Making) where
-  gets-by : (over : Bool) → actOverflows (s .child) (some act) ≡ over → isTable (s .child) ≡ true → actFits (some act) ≡ true
-      → length (encode (s .child)) ≤ length (encode (applied (s .child) (some act))) → Onto (s .child) (childGets act s .child)
-  unfolding childGets refusedBy
-  gets-by true o v f l = rw o (onto-self (s .child) v)
-  gets-by false o v f l = rw o (onto-applied (s .child) (some act) v f o l)
+-- what memory has that an act on the child left
+module _ (act : Act) {c c′ : List ℕ} {r : Outcome} (h : holds c ≡ true) (f : isAct act ≡ true) (M : MakesChild (grantedBy act (tableOf c)) c c′ r) where
+  pub granted-held : holds c′ ≡ true
+  granted-held = rw (M .child) (grant-acted act c h f .holding)
 
-  pub gets-onto : isTable (s .child) ≡ true → actFits (some act) ≡ true
-      → length (encode (s .child)) ≤ length (encode (applied (s .child) (some act))) → Onto (s .child) (childGets act s .child)
-  gets-onto = gets-by (actOverflows (s .child) (some act)) refl
+  pub granted-table : r ≡ outcome.Done → tableOf c′ ≡ applyAct (tableOf c) act
+  unfolding applyActs
+  granted-table e =
+      let one = grant-one act (tableOf c) (outcome-done _ (sym (M .outcome) ∙ e)) in
+      ap tableOf (M .child) ∙ grant-acted act c h f .table ∙ ap (applyActs (tableOf c)) one
 
-  -- all else stays
-  pub gets-parent : childGets act s .parent ≡ s .parent
-  unfolding childGets refusedBy
-  gets-parent = by-room (actOverflows (s .child) (some act))
-    where
-      by-room : (over : Bool)
-          → cond over (refusedBy TableFull s) (record { parent = s .parent; child = applied (s .child) (some act); asked = s .asked; refused = none }) .parent
-          ≡ s .parent
-      by-room true = refl
-      by-room false = refl
+-- ---- what passes
 
-  pub gets-asked : childGets act s .asked ≡ s .asked
-  unfolding childGets refusedBy
-  gets-asked = by-room (actOverflows (s .child) (some act))
-    where
-      by-room : (over : Bool)
-          → cond over (refusedBy TableFull s) (record { parent = s .parent; child = applied (s .child) (some act); asked = s .asked; refused = none }) .asked
-          ≡ s .asked
-      by-room true = refl
-      by-room false = refl
+passed-none : (over passed : Bool) (act : Act)
+    → (cond passed (cond over (refusedBy TableFull) (record { acts = []; grants = act ∷ []; asked = 0; refused = none })) (refusedBy Escalation) .acts ≡ [])
+    × (cond passed (cond over (refusedBy TableFull) (record { acts = []; grants = act ∷ []; asked = 0; refused = none })) (refusedBy Escalation) .asked ≡ 0)
+passed-none true true act = (refl, refl)
+passed-none true false act = (refl, refl)
+passed-none false true act = (refl, refl)
+passed-none false false act = (refl, refl)
 
--- ---- memory that grew
+-- it makes no act on the parent, and nobody is asked
+module _ (state : PermissionState) (q : Query) (u : Table) where
+  pub passed-acts : passedOn state q u .acts ≡ []
+  unfolding passedOn grantedBy
+  passed-acts = passed-none (actOverflows u (grantAct u q)) (passes state) (grantAct u q) .0
 
--- m₀ became m, in steps that made no table shorter
-pub record Grown (m₀ m : List ℕ) : Type 0 where
-  pub holding : holds m ≡ true
-  pub puts : m ≡ put (tableOf m) m₀
-  pub same : length m ≡ length m₀
+  pub passed-asked : passedOn state q u .asked ≡ 0
+  unfolding passedOn grantedBy
+  passed-asked = passed-none (actOverflows u (grantAct u q)) (passes state) (grantAct u q) .1
 
-pub grown-start : (m : List ℕ) → Bytes m → holds m ≡ true → Grown m m
-grown-start m b h = record { holding = h; puts = sym (put-self m b h); same = refl }
+module _ (state : PermissionState) (q : Query) {c : List ℕ} where
+  pub passes-not : passes state ≡ false → MakesChild (passedOn state q (tableOf c)) c c (outcome.Refused Escalation)
+  unfolding passedOn outcomeOf doActs
+  passes-not e = rw e (record { outcome = refl; child = refl })
 
--- one step more
-module _ {m₀ m m′ : List ℕ} {t : Table} (G : Grown m₀ m) (O : Onto (tableOf m) t) (q : m′ ≡ put t m) where
-  pub grown-put : m′ ≡ put t m₀
-  grown-put = q ∙ ap (put t) (G .puts) ∙ put-put (tableOf m) t m₀ (O .longer)
+  pub passes-on : {c′ : List ℕ} {r : Outcome} → passes state ≡ true → MakesChild (grantedBy (grantAct (tableOf c) q) (tableOf c)) c c′ r
+      → MakesChild (passedOn state q (tableOf c)) c c′ r
+  unfolding passedOn
+  passes-on e M = rw e M
 
-  pub grown-table : tableOf m′ ≡ t
-  grown-table = ap tableOf q ∙ tableOf-put t m
+passed-acted : (passed : Bool) (q : Query) (c : List ℕ) → holds c ≡ true → isQuery q ≡ true
+    → Acted c (cond passed (grantedBy (grantAct (tableOf c) q) (tableOf c)) (refusedBy Escalation) .grants)
+passed-acted true q c h f = grant-acted (grantAct (tableOf c) q) c h (grant-fits (tableOf c) (valid-of c h) q f)
+passed-acted false q c h f = acted-none c h
 
-  pub grown-next : Grown m₀ m′
-  grown-next =
-      let L = left-put m m′ t (O .valid) (long-of m (G .holding)) q in
-      record { holding = L .holding; puts = grown-put ∙ ap (λ (u : Table). put u m₀) (sym grown-table); same = L .same ∙ G .same }
+pub pass-acted : (state : PermissionState) (q : Query) (c : List ℕ) → holds c ≡ true → isQuery q ≡ true → Acted c (passedOn state q (tableOf c) .grants)
+unfolding passedOn
+pass-acted state q c h f = passed-acted (passes state) q c h f
 
--- ---- steps in memory
+-- ---- one item
 
-pub makes-as : {s s′ : Making} {m c m′ c′ : List ℕ} {r : ChildMade} → s ≡ s′ → Makes s m c m′ c′ r → Makes s′ m c m′ c′ r
-makes-as {m = m} {c = c} {m′ = m′} {c′ = c′} {r = r} e M = subst (λ (x : Making). Makes x m c m′ c′ r) e M
+-- its acts on the parent are those of the parent's check
+pub item-acts : (r : Result Decision) (q : Query) (u : Table) → itemBy r q u .acts ≡ actsIn r
+unfolding itemBy actsIn checked onward
+item-acts (refused cause) q u = refl
+item-acts (ok decision) q u = rw (passed-acts (decision .state) q u) (append-nil (actsOf none (decision .act)))
 
--- steps that are not refused come to where both memories stand
-pub makes-done : {s : Making} {m c m′ c′ : List ℕ} {r : ChildMade} → Makes s m c m′ c′ r → r .outcome ≡ Done → s ≡ makingOf m′ c′ (r .asked)
-unfolding makingOf
-makes-done {s} {m} {c} M e =
-    let p : s .parent ≡ tableOf _ = sym (ap tableOf (M .parent) ∙ tableOf-put (s .parent) m) in
-    let q : s .child ≡ tableOf _ = sym (ap tableOf (M .child) ∙ tableOf-put (s .child) c) in
-    let n = outcome-done (s .refused) (sym (M .outcome) ∙ e) in
-    λ i. record { parent = p i; child = q i; asked = sym (M .asked) i; refused = n i }
+pub item-grants : (r : Result Decision) (q : Query) (u : Table) {decision : Decision} → r ≡ ok decision → itemBy r q u .grants ≡ passedOn (decision .state) q u .grants
+unfolding itemBy checked onward
+item-grants r q u e = rw e
 
-pub makes-refused : {s : Making} {m c m′ c′ : List ℕ} {r : ChildMade} {cause : Refusal} → Makes s m c m′ c′ r → r .outcome ≡ Refused cause
-    → s .refused ≡ some cause
-makes-refused {s} M e = outcome-refused (s .refused) (sym (M .outcome) ∙ e)
+-- ---- acts on the child ask nobody
+
+granted-none : (over : Bool) (act : Act) → cond over (refusedBy TableFull) (record { acts = []; grants = act ∷ []; asked = 0; refused = none }) .asked ≡ 0
+granted-none true act = refl
+granted-none false act = refl
+
+then-asked : (a b : Made) (o : Option Refusal) → a .refused ≡ o → a .asked ≡ 0 → b .asked ≡ 0 → then a b .asked ≡ 0
+then-asked a b none e f g = ap (λ (x : Made). x .asked) (then-goes a b e) ∙ rw (f, g) (omega arith)
+then-asked a b (some cause) e f g = ap (λ (x : Made). x .asked) (then-stops a b e) ∙ f
+
+pub granting-asked : (acts : List Act) (u : Table) → granting acts u .asked ≡ 0
+unfolding granting
+granting-asked [] u = refl
+granting-asked (act ∷ acts) u =
+    then-asked (grantedBy act u) (granting acts (applyAct u act)) (grantedBy act u .refused) refl
+    (unfold grantedBy in granted-none (actOverflows u act) act) (granting-asked acts (applyAct u act))
+
+-- nor do they make acts on the parent
+granted-parent : (over : Bool) (act : Act) → cond over (refusedBy TableFull) (record { acts = []; grants = act ∷ []; asked = 0; refused = none }) .acts ≡ []
+granted-parent true act = refl
+granted-parent false act = refl
+
+then-acts : (a b : Made) (o : Option Refusal) → a .refused ≡ o → a .acts ≡ [] → b .acts ≡ [] → then a b .acts ≡ []
+then-acts a b none e f g = ap (λ (x : Made). x .acts) (then-goes a b e) ∙ rw (f, g)
+then-acts a b (some cause) e f g = ap (λ (x : Made). x .acts) (then-stops a b e) ∙ f
+
+pub granting-acts : (acts : List Act) (u : Table) → granting acts u .acts ≡ []
+unfolding granting
+granting-acts [] u = refl
+granting-acts (act ∷ acts) u =
+    then-acts (grantedBy act u) (granting acts (applyAct u act)) (grantedBy act u .refused) refl
+    (unfold grantedBy in granted-parent (actOverflows u act) act) (granting-acts acts (applyAct u act))

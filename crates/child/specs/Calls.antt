@@ -1,90 +1,65 @@
 -- The child call: its checking order, its answer, and both memories after it. Document 01, "A call comes in".
 use Prim.Native.Nat.{ℕ}
 use mathlib.Core.Path.{_≡_}
-use mathlib.Core.List.{List, [], _∷_}
+use mathlib.Core.List.{List, []}
 use mathlib.Core.Option.{Option, none, some}
-use mathlib.Core.Bool.{_||_, not}
-use lib.ListN.{length}
-use lib.Dec.{ltb}
 use Rattle.refusals.specs.declared.Refusal.{Refusal}
-use Rattle.refusals.specs.declared.Refusal.the-variants.{NoTable, Unknown}
-use Rattle.refusals.specs.Refusals.{Condition, when, firstCause}
-use Rattle.table.specs.declared.Outcome.{Outcome}
-use Rattle.table.specs.declared.Outcome.the-variants.{Done, Refused}
+use Rattle.refusals.specs.Refusals.{Result, refused, ok, andThen}
+use Rattle.table.specs.declared.Numbering.{Numbering}
+use Rattle.table.specs.declared.Numbering.the-variants.{Plain}
 use Rattle.table.specs.Tables.{Table, fresh}
-use Rattle.table.specs.Memory.{tableBytes, tableOf, holds, put}
-use Rattle.table.specs.Calls.{outcomeOf, memoryAfter}
+use Rattle.table.specs.Acts.{Act}
+use Rattle.table.specs.Memory.{put, doActs}
+use Rattle.table.specs.Carrying.{outcomeOf}
+use Rattle.table.specs.Calls.{tableIn, freshIn}
 use Rattle.child.specs.declared.ChildMade.{ChildMade}
-use Rattle.child.specs.Arguments.{argFrom, isKnown}
-use Rattle.child.specs.Making.{Making, refusedBy, completed, createChild}
+use Rattle.child.specs.Arguments.{Arguments, argumentsOf}
+use Rattle.child.specs.Making.{Made, firstChild, createChild}
 
--- 1 and 3, before any item; m is the parent's memory, c the child's, which need only be large enough
-unfoldable pub childConditions : List ℕ → List ℕ → ℕ → List ℕ → List ℕ → List ℕ → List Condition
-childConditions m c code bytes ends responses =
-    when (not (holds m) || ltb (length c) tableBytes) NoTable ∷ when (not (isKnown code bytes ends responses)) Unknown ∷ []
+-- the child's first table, and what is made of it
+pub record Creation : Type 0 where
+  pub first : Table
+  pub made : Made
 
-unfoldable pub childCause : List ℕ → List ℕ → ℕ → List ℕ → List ℕ → List ℕ → Option Refusal
-childCause m c code bytes ends responses = firstCause (childConditions m c code bytes ends responses)
+unfoldable pub creation : Numbering → Table → List ℕ → Arguments → Creation
+creation numbers t cwd args = record { first = firstChild (args .arg) t; made = createChild numbers t args cwd }
 
--- what a call makes that comes to its items
-unfoldable pub childMaking : List ℕ → ℕ → List ℕ → List ℕ → List ℕ → List ℕ → Making
-childMaking m code bytes ends responses cwd = createChild (tableOf m) (argFrom code) bytes ends responses cwd
+-- 1 of the parent's memory m and of the child's c, 3, and then the items
+unfoldable pub childCall : Numbering → List ℕ → List ℕ → ℕ → List ℕ → List ℕ → List ℕ → List ℕ → Result Creation
+childCall numbers m c code bytes ends responses cwd =
+    andThen (tableIn m) (λ t.
+    andThen (freshIn c) (λ empty.
+    andThen (argumentsOf code bytes ends responses) (λ args.
+    ok (creation numbers t cwd args))))
 
 -- ---- what a call leaves
 
 -- refused before any item, or on the way, or not at all
-unfoldable pub refusalOf : Option Refusal → Making → Option Refusal
-refusalOf none s = s .refused
-refusalOf (some cause) s = some cause
+unfoldable pub refusalIn : Result Creation → Option Refusal
+refusalIn (refused cause) = some cause
+refusalIn (ok s) = s .made .refused
 
-unfoldable pub askedOf : Option Refusal → Making → ℕ
-askedOf none s = s .asked
-askedOf (some cause) s = 0
+unfoldable pub askedIn : Result Creation → ℕ
+askedIn (refused cause) = 0
+askedIn (ok s) = s .made .asked
 
--- After a refusal on the way the child is fresh; behind it stands what the half-made table left there.
-unfoldable pub childLeft : Option Refusal → Table → List ℕ → List ℕ
-childLeft none t c = put t c
-childLeft (some cause) t c = put fresh (put t c)
+-- the parent keeps its acts, also where the call is refused on the way
+unfoldable pub actsIn : Result Creation → List Act
+actsIn (refused cause) = []
+actsIn (ok s) = s .made .acts
 
--- Memory m of the parent and c of the child become m′ and c′: nothing changes where a cause comes before any item; else the parent keeps its
--- acts, and the child is what was made.
-pub record CreatesChild (cause : Option Refusal) (s : Making) (m c m′ c′ : List ℕ) (r : ChildMade) : Type 0 where
-  pub outcome : r .outcome ≡ outcomeOf (refusalOf cause s)
-  pub asked : r .asked ≡ askedOf cause s
-  pub parent : m′ ≡ memoryAfter cause m (put (s .parent) m)
-  pub child : c′ ≡ memoryAfter cause c (childLeft (s .refused) (s .child) c)
+-- after a refusal on the way the child is fresh; behind it stands what the half-made table left there
+unfoldable pub childLeft : Option Refusal → List ℕ → List ℕ
+childLeft none c = c
+childLeft (some cause) c = put fresh c
 
--- ---- the steps, in memory
+unfoldable pub childAfter : Result Creation → List ℕ → List ℕ
+childAfter (refused cause) c = c
+childAfter (ok s) c = childLeft (s .made .refused) (doActs (put (s .first) c) (s .made .grants))
 
-abbrev pub madeDone : ℕ → ChildMade
-madeDone asked = record { outcome = Done; asked = asked }
-
-abbrev pub madeRefused : Refusal → ℕ → ChildMade
-madeRefused cause asked = record { outcome = Refused cause; asked = asked }
-
--- where a call stands, with both tables in memory
-unfoldable pub makingOf : List ℕ → List ℕ → ℕ → Making
-makingOf m c asked = record { parent = tableOf m; child = tableOf c; asked = asked; refused = none }
-
--- steps that come to s: m and c become m′ and c′
-pub record Makes (s : Making) (m c m′ c′ : List ℕ) (r : ChildMade) : Type 0 where
-  pub outcome : r .outcome ≡ outcomeOf (s .refused)
-  pub asked : r .asked ≡ s .asked
-  pub parent : m′ ≡ put (s .parent) m
-  pub child : c′ ≡ put (s .child) c
-
--- the same for steps that change the child's memory alone
-pub record MakesChild (s : Making) (c c′ : List ℕ) (r : Outcome) : Type 0 where
-  pub outcome : r ≡ outcomeOf (s .refused)
-  pub child : c′ ≡ put (s .child) c
-
--- where a call stands after its items, by their outcome
-unfoldable pub standing : List ℕ → List ℕ → ℕ → Outcome → Making
-standing m c asked Done = makingOf m c asked
-standing m c asked (Refused cause) = refusedBy cause (makingOf m c asked)
-
--- from there to the end: c becomes c′
-pub record Completes (s : Making) (c c′ : List ℕ) (r : ChildMade) : Type 0 where
-  pub outcome : r .outcome ≡ outcomeOf (completed s .refused)
-  pub asked : r .asked ≡ completed s .asked
-  pub child : c′ ≡ childLeft (completed s .refused) (completed s .child) c
+-- memory m of the parent and c of the child become m′ and c′
+pub record CreatesChild (m c : List ℕ) (code : ℕ) (bytes ends responses cwd m′ c′ : List ℕ) (r : ChildMade) : Type 0 where
+  pub outcome : r .outcome ≡ outcomeOf (refusalIn (childCall Plain m c code bytes ends responses cwd))
+  pub asked : r .asked ≡ askedIn (childCall Plain m c code bytes ends responses cwd)
+  pub parent : m′ ≡ doActs m (actsIn (childCall Plain m c code bytes ends responses cwd))
+  pub child : c′ ≡ childAfter (childCall Plain m c code bytes ends responses cwd) c

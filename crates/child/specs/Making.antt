@@ -1,47 +1,58 @@
--- The Rust's `create_child_permissions`, step by step, in document 01's order of refusals. Document 01, "A call comes in".
+-- The Rust's `create_child_permissions`, step by step, in document 01's order of refusals: a fold of what each item adds. A plain call numbers no
+-- act, and a linked one is the same fold. Document 01, "A call comes in".
 use Prim.Native.Nat.{ℕ, _+_}
-use mathlib.Core.List.{List, [], _∷_}
+use mathlib.Core.List.{List, [], _∷_, _++_}
 use mathlib.Core.Option.{Option, none, some}
 use mathlib.Core.Bool.{Bool, true, false, cond}
 use Rattle.refusals.specs.declared.Refusal.{Refusal}
 use Rattle.refusals.specs.declared.Refusal.the-variants.{TableFull, Escalation}
-use Rattle.refusals.specs.Refusals.{firstCause}
+use Rattle.refusals.specs.Refusals.{Result, refused, ok}
 use Rattle.paths.specs.Resolving.{resolve}
+use Rattle.paths.specs.Giving.{Query, queryOf}
+use Rattle.table.specs.declared.Numbering.{Numbering}
 use Rattle.table.specs.Entries.{Entry, isGranted}
 use Rattle.table.specs.Tables.{Table, fresh, has, setBit, clearBit, granted}
-use Rattle.table.specs.Acts.{Act, insert, setSwitches}
-use Rattle.walk.specs.Walk.{Query, queryOf}
-use Rattle.calls.specs.declared.PromptResponse.{PromptResponse}
-use Rattle.calls.specs.declared.Verdict.{Verdict}
-use Rattle.calls.specs.declared.Verdict.the-variants.{Passed, Failed}
-use Rattle.calls.specs.Decisions.{CheckDecision, checkDesc, grantAct, actOverflows, applied}
-use Rattle.calls.specs.Calls.{actConditions, checkGiven, fullCause}
+use Rattle.table.specs.Acts.{Act, insert, setSwitches, without, actOverflows, applyAct, applyActs}
+use Rattle.table.specs.Carrying.{past, actsOf}
+use Rattle.walk.specs.declared.PermissionState.{PermissionState}
+use Rattle.calls.specs.declared.Call.the-variants.{Check}
+use Rattle.calls.specs.Decisions.{Decision, grantAct, passes}
+use Rattle.calls.specs.Calls.{settled}
 use Rattle.child.specs.declared.ChildUnaryPermissionArg.{ChildUnaryPermissionArg}
 use Rattle.child.specs.declared.ChildUnaryPermissionArg.the-variants.{Inherit, Granted, NotGranted, GrantedList}
-use Rattle.child.specs.Arguments.{Item, itemsOf}
+use Rattle.child.specs.Arguments.{Item, Arguments}
 
--- How far a call has come: the parent's table, the child's, how often the operator was asked, and why the call is refused, if it is.
-pub record Making : Type 0 where
-  pub parent : Table
-  pub child : Table
+-- ---- what steps of a child call do
+
+-- the acts on the parent, those on the child, how often the operator was asked, and why the call is refused, if it is
+pub record Made : Type 0 where
+  pub acts : List Act
+  pub grants : List Act
   pub asked : ℕ
   pub refused : Option Refusal
 
--- both tables and the count stay as they are
-unfoldable pub refusedBy : Refusal → Making → Making
-refusedBy cause s = record { parent = s .parent; child = s .child; asked = s .asked; refused = some cause }
+abbrev pub nothing : Made
+nothing = record { acts = []; grants = []; asked = 0; refused = none }
 
--- ---- steps in turn
+abbrev pub refusedBy : Refusal → Made
+refusedBy cause = record { acts = []; grants = []; asked = 0; refused = some cause }
 
--- a call that is refused goes no further
-unfoldable pub onward : Option Refusal → Making → Making → Making
-onward none next s = next
-onward (some cause) next s = s
+-- one after the other; a call that is refused goes no further
+unfoldable pub onward : Option Refusal → Made → Made → Made
+onward (some cause) a b = a
+onward none a b = record { acts = a .acts ++ b .acts; grants = a .grants ++ b .grants; asked = a .asked + b .asked; refused = b .refused }
 
--- one step after the other
-unfoldable pub inTurn : {A : Type 0} → (A → Making → Making) → List A → Making → Making
-inTurn step [] s = s
-inTurn step (a ∷ rest) s = inTurn step rest (onward (s .refused) (step a s) s)
+abbrev pub then : Made → Made → Made
+then a b = onward (a .refused) a b
+
+-- one act on the child's table u; 8 where it has no room
+unfoldable pub grantedBy : Act → Table → Made
+grantedBy act u = cond (actOverflows u act) (refusedBy TableFull) (record { acts = []; grants = act ∷ []; asked = 0; refused = none })
+
+-- acts on it in turn
+unfoldable pub granting : List Act → Table → Made
+granting [] u = nothing
+granting (act ∷ acts) u = then (grantedBy act u) (granting acts (applyAct u act))
 
 -- ---- one item
 
@@ -49,66 +60,48 @@ unfoldable pub countOf : Bool → ℕ
 countOf true = 1
 countOf false = 0
 
--- the parent's check has come to an end
-unfoldable pub checked : CheckDecision → Making → Making
-checked decision s = record {
-  parent = applied (s .parent) (decision .act);
-  child = s .child;
-  asked = s .asked + countOf (decision .asked);
-  refused = none;
-}
-
--- the child's table gets an act, 8 if it has no room
-unfoldable pub childGets : Act → Making → Making
-childGets act s =
-    cond (actOverflows (s .child) (some act)) (refusedBy TableFull s)
-    (record { parent = s .parent; child = applied (s .child) (some act); asked = s .asked; refused = none })
-
 -- 10 if the parent's check fails; else what passes is granted to the child: a path, or with none switch 1
-unfoldable pub passedOn : Verdict → Query → Making → Making
-passedOn Passed q s = childGets (grantAct (s .child) q) s
-passedOn (Failed state) q s = refusedBy Escalation s
+unfoldable pub passedOn : PermissionState → Query → Table → Made
+passedOn state q u = cond (passes state) (grantedBy (grantAct u q) u) (refusedBy Escalation)
 
--- an item whose check is refused changes nothing
-unfoldable pub itemBy : Option Refusal → CheckDecision → Query → Making → Making
-itemBy none decision q s = passedOn (decision .verdict) q (checked decision s)
-itemBy (some cause) decision q s = refusedBy cause s
+-- the parent's check has come to an end
+unfoldable pub checked : Decision → Made
+checked decision = record { acts = actsOf none (decision .act); grants = []; asked = countOf (decision .asked); refused = none }
 
--- one item: 4 to 7, the parent's check with 8, then 10, then the child's insert with 8
-unfoldable pub itemStep : List ℕ → Item → Making → Making
-itemStep cwd i s =
-    itemBy
-    (firstCause (actConditions (s .parent) (checkGiven (s .parent) (i .response) (i .descriptor) (i .given) cwd .act) (i .descriptor) (i .given) cwd))
-    (checkGiven (s .parent) (i .response) (i .descriptor) (i .given) cwd)
-    (queryOf (i .descriptor) (resolve (i .given) cwd))
-    s
+-- what the parent's check of q comes to, and what the child is granted; an item whose check is refused adds nothing
+unfoldable pub itemBy : Result Decision → Query → Table → Made
+itemBy (refused cause) q u = refusedBy cause
+itemBy (ok decision) q u = then (checked decision) (passedOn (decision .state) q u)
 
--- the same for what is resolved: from the parent's check on
-unfoldable pub resolvedStep : Query → PromptResponse → Making → Making
-resolvedStep q response s =
-    itemBy (fullCause (s .parent) (checkDesc (s .parent) q response .act)) (checkDesc (s .parent) q response) q s
+-- 4 to 7, the parent's check with 8 and 9, then 10, then the child's insert with 8; t is the parent's table, u the child's
+unfoldable pub itemStep : Numbering → List ℕ → Item → Table → Table → Made
+itemStep numbers cwd i t u =
+    itemBy (settled Check numbers t (i .descriptor) (i .given) cwd (i .response)) (queryOf (i .descriptor) (resolve (i .given) cwd)) u
 
--- ---- what the child takes over from its parent
+-- each item on the tables that those before leave
+unfoldable pub allItems : Numbering → List ℕ → List Item → Table → Table → Made
+allItems numbers cwd [] t u = nothing
+allItems numbers cwd (i ∷ items) t u =
+    let made = itemStep numbers cwd i t u in
+    then made (allItems (past numbers (made .acts)) cwd items (applyActs t (made .acts)) (applyActs u (made .grants)))
+
+-- ---- what the child takes over from its parent: the switches, and each D, I and P again
 
 -- switch 1 is the child's own, the others are the parent's
 unfoldable pub childSwitches : ℕ → ℕ → ℕ
 childSwitches parent child = cond (has child granted) (setBit parent granted) (clearBit parent granted)
 
-unfoldable pub withSwitches : Making → Making
-withSwitches s = record {
-  parent = s .parent;
-  child = applied (s .child) (some (setSwitches (childSwitches (s .parent .switches) (s .child .switches))));
-  asked = s .asked;
-  refused = s .refused;
-}
+unfoldable pub inserts : List Entry → List Act
+inserts [] = []
+inserts (e ∷ es) = insert e ∷ inserts es
 
--- each D, I and P is inserted again
-unfoldable pub reinsert : Entry → Making → Making
-reinsert e s = cond (isGranted (e .kind)) s (childGets (insert e) s)
+-- an insert of each entry but the Gs, in list order
+unfoldable pub reinserts : List Entry → List Act
+reinserts es = inserts (without (λ e. isGranted (e .kind)) es)
 
 -- over the parent's list as it then is
-unfoldable pub takeOver : Making → Making
-takeOver s = inTurn reinsert (s .parent .entries) (withSwitches s)
+unfoldable pub takeOverActs : Table → Table → List Act
+takeOverActs t u = setSwitches (childSwitches (t .switches) (u .switches)) ∷ reinserts (t .entries)
 
 -- ---- the whole call
 
@@ -119,15 +112,14 @@ firstChild Granted t = fresh
 firstChild NotGranted t = fresh
 firstChild GrantedList t = fresh
 
-unfoldable pub begun : ChildUnaryPermissionArg → Table → Making
-begun arg t = record { parent = t; child = firstChild arg t; asked = 0; refused = none }
+-- t is the parent's table after the items, u the child's
+unfoldable pub takeOver : Table → Table → Made
+takeOver t u = granting (takeOverActs t u) u
 
-unfoldable pub afterItems : Table → ChildUnaryPermissionArg → List ℕ → List ℕ → List ℕ → List ℕ → Making
-afterItems t arg bytes ends responses cwd = inTurn (itemStep cwd) (itemsOf arg bytes ends responses) (begun arg t)
-
-unfoldable pub completed : Making → Making
-completed s = onward (s .refused) (takeOver s) s
+unfoldable pub completed : Made → Table → Table → Made
+completed made t u = then made (takeOver (applyActs t (made .acts)) (applyActs u (made .grants)))
 
 -- t is the parent's table
-unfoldable pub createChild : Table → ChildUnaryPermissionArg → List ℕ → List ℕ → List ℕ → List ℕ → Making
-createChild t arg bytes ends responses cwd = completed (afterItems t arg bytes ends responses cwd)
+unfoldable pub createChild : Numbering → Table → Arguments → List ℕ → Made
+createChild numbers t args cwd =
+    completed (allItems numbers cwd (args .items) t (firstChild (args .arg) t)) t (firstChild (args .arg) t)

@@ -1,43 +1,39 @@
 // What a child call is handed, and whether it is known. Document 01, "A call comes in", cause 3.
+use crate::ArgRead;
 use crate::ChildUnaryPermissionArg;
+use crate::MAX_ITEMS;
 use calls::PromptResponse;
+use calls::ResponseRead;
+use calls::asking::response_of;
 ghost use mathlib.Core.Path.{_≡_};
-ghost use lib.ListN.{length};
-ghost use Rattle.calls.specs.Decisions.{responseFrom};
-ghost use Rattle.child.specs.Arguments.{argFrom, areResponses, closeAt, responsesDue, itemsFit, isKnown};
+ghost use mathlib.Core.Bool.{true};
+ghost use Prim.Native.Nat.{_<_};
+ghost use lib.ListN.{length, getD};
+ghost use Rattle.calls.specs.declared.ResponseRead.the-variants.{Response};
+ghost use Rattle.calls.specs.Decisions.{responseOf};
+ghost use Rattle.child.specs.Arguments.{argOf, closeAt, responsesDue, itemsFit, areInOrder};
+ghost use Rattle.child.specs.Steps.{areResponses};
 
-const MAX_ITEMS: usize = 64;
-
-// The argument of a child code.
-pub fn arg_from(code: u32) -> ChildUnaryPermissionArg
-    ensures { λ r. ⌜ r ≡ argFrom code ⌝ }
+// The argument that a child code names.
+pub(crate) fn arg_of(code: u32) -> ArgRead
+    ensures { λ r. ⌜ r ≡ argOf code ⌝ }
 {
     match code {
-        0 => ChildUnaryPermissionArg::Inherit,
-        1 => ChildUnaryPermissionArg::Granted,
-        2 => ChildUnaryPermissionArg::NotGranted,
-        _ => ChildUnaryPermissionArg::GrantedList,
-    }
-}
-
-// The operator's answer of a number.
-pub fn response_from(number: u32) -> PromptResponse
-    ensures { λ r. ⌜ r ≡ responseFrom number ⌝ }
-{
-    match number {
-        0 => PromptResponse::Deny,
-        1 => PromptResponse::Allow,
-        _ => PromptResponse::AllowAll,
+        0 => ArgRead::Arg(ChildUnaryPermissionArg::Inherit),
+        1 => ArgRead::Arg(ChildUnaryPermissionArg::Granted),
+        2 => ArgRead::Arg(ChildUnaryPermissionArg::NotGranted),
+        3 => ArgRead::Arg(ChildUnaryPermissionArg::GrantedList),
+        _ => ArgRead::Unknown,
     }
 }
 
 // Whether every answer is known.
-pub fn are_responses(responses: &[u32]) -> bool
+pub(crate) fn are_responses(responses: &[u32]) -> bool
     ensures { λ r. ⌜ r ≡ areResponses (now (responses .entry)) ⌝ }
 {
-    let mut i = 0;
+    let mut i: usize = 0;
     while i < responses.len() {
-        if responses[i] > 2 {
+        if let ResponseRead::Unknown = response_of(responses[i]) {
             return false;
         }
         i += 1;
@@ -45,8 +41,19 @@ pub fn are_responses(responses: &[u32]) -> bool
     true
 }
 
+// The answer at a place of answers that are all known.
+pub(crate) fn response_at(responses: &[u32], i: usize) -> PromptResponse
+    requires { ⌜ (areResponses (now responses) ≡ true) × (i < length (now responses)) ⌝ }
+    ensures { λ r. ⌜ responseOf (getD (now (responses .entry)) i 0) ≡ Response r ⌝ }
+{
+    if let ResponseRead::Response(response) = response_of(responses[i]) {
+        return response;
+    }
+    PromptResponse::Deny
+}
+
 // Whether end positions do not fall and close at n.
-pub fn close_at(n: usize, ends: &[u32]) -> bool
+fn close_at(n: usize, ends: &[u32]) -> bool
     ensures { λ r. ⌜ r ≡ closeAt n 0 (now (ends .entry)) ⌝ }
 {
     let mut from = 0;
@@ -86,17 +93,16 @@ fn items_fit(arg: ChildUnaryPermissionArg, ends: &[u32]) -> bool
     }
 }
 
-// Whether a call with these arguments comes to its items. The bytes of the items stand one after the other, each up to its end position.
-pub fn is_known(code: u32, bytes: &[u8], ends: &[u32], responses: &[u32]) -> bool
-    ensures { λ r. ⌜ r ≡ isKnown code (now (bytes .entry)) (now (ends .entry)) (now (responses .entry)) ⌝ }
+// Whether the items are not too many and in order, and the answers as many as are due. The bytes of the items stand one after the other, each
+// up to its end position.
+pub(crate) fn are_in_order(
+    arg: ChildUnaryPermissionArg,
+    bytes: &[u8],
+    ends: &[u32],
+    responses: &[u32],
+) -> bool
+    ensures { λ r. ⌜ r ≡ areInOrder arg (now (bytes .entry)) (now (ends .entry)) (now (responses .entry)) ⌝ }
 {
-    if code > 3 {
-        return false;
-    }
-    if !are_responses(responses) {
-        return false;
-    }
-    let arg = arg_from(code);
     if !items_fit(arg, ends) {
         return false;
     }

@@ -1,30 +1,28 @@
-// The child call: the checking order, the items, and what the child takes over. Document 01, "A call comes in".
+// The child call: the checking order, the child's first table, the items, and what the child takes over. Document 01, "A call comes in".
+use crate::ArgRead;
 use crate::ChildMade;
-use crate::ChildUnaryPermissionArg;
-use crate::arguments::arg_from;
-use crate::arguments::is_known;
+use crate::arguments::are_in_order;
+use crate::arguments::are_responses;
+use crate::arguments::arg_of;
 use crate::granting::done;
-use crate::granting::grant_item;
-use crate::granting::grant_items;
+use crate::granting::grant_all;
 use crate::granting::refused;
-use crate::inheriting::copy_table;
+use crate::inheriting::begin;
 use crate::inheriting::take_over;
 use refusals::Refusal;
 use table::Outcome;
+use table::TABLE_BYTES;
 use table::acting::make_fresh;
 use table::holding::holds_table;
-use walk::Descriptor;
 ghost use mathlib.Core.Path.{_≡_};
 ghost use mathlib.Core.Bool.{true};
-ghost use Prim.Native.Nat.{ℕ, _≤_};
+ghost use Prim.Native.Nat.{_≤_};
 ghost use lib.ListN.{length};
 ghost use Rattle.table.specs.Tables.{fresh};
 ghost use Rattle.table.specs.Memory.{tableBytes, tableOf, holds, put};
-ghost use Rattle.child.specs.Arguments.{argFrom, isKnown};
-ghost use Rattle.child.specs.Making.{afterItems};
-ghost use Rattle.child.specs.Calls.{childCause, childMaking, CreatesChild, Makes, standing, Completes, madeRefused};
-
-const TABLE_BYTES: usize = 33540;
+ghost use Rattle.child.specs.Making.{takeOver};
+ghost use Rattle.child.specs.Calls.{CreatesChild};
+ghost use Rattle.child.specs.Steps.{madeRefused, afterItems, Completes};
 
 // A refusal on the way: the child is then fresh.
 fn give_up(child: &mut [u8], cause: Refusal, asked: usize) -> ChildMade
@@ -35,43 +33,10 @@ fn give_up(child: &mut [u8], cause: Refusal, asked: usize) -> ChildMade
     refused(cause, asked)
 }
 
-// The child's first table, and the items.
-fn begin(
-    parent: &mut [u8],
-    child: &mut [u8],
-    code: u32,
-    bytes: &[u8],
-    ends: &[u32],
-    responses: &[u32],
-    cwd: &[u8],
-) -> ChildMade
-    requires { ⌜ (holds (now parent) ≡ true) × (tableBytes ≤ length (now child)) × (isKnown code (now bytes) (now ends) (now responses) ≡ true) ⌝ }
-    ensures { λ r. ⌜ Makes (afterItems (tableOf (now (parent .entry))) (argFrom code) (now (bytes .entry)) (now (ends .entry)) (now (responses .entry)) (now (cwd .entry))) (now (parent .entry)) (now (child .entry)) (now (parent .exit)) (now (child .exit)) r ⌝ }
-{
-    match arg_from(code) {
-        ChildUnaryPermissionArg::Inherit => {
-            copy_table(parent, child);
-            done(0)
-        }
-        ChildUnaryPermissionArg::NotGranted => {
-            make_fresh(child);
-            done(0)
-        }
-        ChildUnaryPermissionArg::Granted => {
-            make_fresh(child);
-            grant_item(parent, child, Descriptor::NoPath, b"", cwd, responses[0], 0)
-        }
-        ChildUnaryPermissionArg::GrantedList => {
-            make_fresh(child);
-            grant_items(parent, child, bytes, ends, responses, cwd)
-        }
-    }
-}
-
 // Once the items are through: what the child takes over.
 fn complete(parent: &[u8], child: &mut [u8], asked: usize, outcome: Outcome) -> ChildMade
     requires { ⌜ (holds (now parent) ≡ true) × (holds (now child) ≡ true) ⌝ }
-    ensures { λ r. ⌜ Completes (standing (now (parent .entry)) (now (child .entry)) asked outcome) (now (child .entry)) (now (child .exit)) r ⌝ }
+    ensures { λ r. ⌜ Completes (afterItems outcome (takeOver (tableOf (now (parent .entry))) (tableOf (now (child .entry))))) asked (now (child .entry)) (now (child .exit)) r ⌝ }
 {
     if let Outcome::Refused(cause) = outcome {
         return give_up(child, cause, asked);
@@ -93,7 +58,7 @@ pub fn create_child_permissions(
     responses: &[u32],
     cwd: &[u8],
 ) -> ChildMade
-    ensures { λ r. ⌜ CreatesChild (childCause (now (parent .entry)) (now (child .entry)) code (now (bytes .entry)) (now (ends .entry)) (now (responses .entry))) (childMaking (now (parent .entry)) code (now (bytes .entry)) (now (ends .entry)) (now (responses .entry)) (now (cwd .entry))) (now (parent .entry)) (now (child .entry)) (now (parent .exit)) (now (child .exit)) r ⌝ }
+    ensures { λ r. ⌜ CreatesChild (now (parent .entry)) (now (child .entry)) code (now (bytes .entry)) (now (ends .entry)) (now (responses .entry)) (now (cwd .entry)) (now (parent .exit)) (now (child .exit)) r ⌝ }
 {
     if !holds_table(parent) {
         return refused(Refusal::NoTable, 0);
@@ -101,10 +66,17 @@ pub fn create_child_permissions(
     if child.len() < TABLE_BYTES {
         return refused(Refusal::NoTable, 0);
     }
-    if !is_known(code, bytes, ends, responses) {
+    let ArgRead::Arg(arg) = arg_of(code) else {
+        return refused(Refusal::Unknown, 0);
+    };
+    if !are_responses(responses) {
         return refused(Refusal::Unknown, 0);
     }
-    let made = begin(parent, child, code, bytes, ends, responses, cwd);
+    if !are_in_order(arg, bytes, ends, responses) {
+        return refused(Refusal::Unknown, 0);
+    }
+    begin(parent, child, arg);
+    let made = grant_all(parent, child, arg, bytes, ends, responses, cwd);
     let asked = made.asked;
     let outcome = made.outcome;
     complete(parent, child, asked, outcome)

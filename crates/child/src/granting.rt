@@ -1,33 +1,31 @@
 // The items of a child call, one by one: the parent's check of each, and what the child is granted. Document 01, "A call comes in".
 use crate::ChildMade;
-use crate::arguments::response_from;
+use crate::ChildUnaryPermissionArg;
+use crate::arguments::response_at;
+use calls::Call;
 use calls::PromptResponse;
-use calls::Verdict;
-use calls::carrying::carry_out;
-use calls::deciding::check_desc;
+use calls::Settled;
+use calls::asking::settle;
 use calls::deciding::grant_action;
-use paths::Resolution;
-use paths::resolving::resolve;
+use paths::Descriptor;
+use paths::MAX_PATH;
 use refusals::Refusal;
+use table::Numbering;
 use table::Outcome;
-use walk::Descriptor;
+use table::carrying::carry_out;
+use walk::PermissionState;
 ghost use mathlib.Core.Path.{_≡_};
 ghost use mathlib.Core.Bool.{true};
-ghost use mathlib.Core.Option.{some};
-ghost use Prim.Native.Nat.{_+_, _≤_};
-ghost use lib.ListN.{length};
-ghost use Rattle.table.specs.declared.Kind.the-variants.{G};
-ghost use Rattle.table.specs.Tables.{isEntry};
+ghost use Rattle.paths.specs.Giving.{isQuery, queryOf};
 ghost use Rattle.table.specs.Memory.{tableOf, holds};
-ghost use Rattle.walk.specs.declared.Descriptor.the-variants.{Path};
-ghost use Rattle.walk.specs.Walk.{queryOf};
-ghost use Rattle.calls.specs.Decisions.{grantAct, CarriesOut};
-ghost use Rattle.child.specs.Arguments.{listItems, closeAt};
-ghost use Rattle.child.specs.Making.{inTurn, itemStep, resolvedStep, countOf};
-ghost use Rattle.child.specs.Calls.{makingOf, Makes, madeDone, madeRefused};
+ghost use Rattle.calls.specs.declared.PromptResponse.{PromptResponse};
+ghost use Rattle.calls.specs.Decisions.{passes};
+ghost use Rattle.child.specs.Arguments.{listItems, itemsOf, areInOrder};
+ghost use Rattle.child.specs.Making.{countOf, passedOn};
+ghost use Rattle.child.specs.Steps.{areResponses, madeDone, madeRefused, MakesChild, GrantsItem, GrantsItems, Listed};
 
 // A call that is refused.
-pub fn refused(cause: Refusal, asked: usize) -> ChildMade
+pub(crate) fn refused(cause: Refusal, asked: usize) -> ChildMade
     ensures { λ r. ⌜ r ≡ madeRefused cause asked ⌝ }
 {
     ChildMade {
@@ -37,7 +35,7 @@ pub fn refused(cause: Refusal, asked: usize) -> ChildMade
 }
 
 // A call that goes on, or is done.
-pub fn done(asked: usize) -> ChildMade
+pub(crate) fn done(asked: usize) -> ChildMade
     ensures { λ r. ⌜ r ≡ madeDone asked ⌝ }
 {
     ChildMade {
@@ -46,94 +44,79 @@ pub fn done(asked: usize) -> ChildMade
     }
 }
 
-// One more if the operator was asked.
-fn counted(asked: usize, more: bool) -> usize
-    requires { ⌜ asked ≤ 64 ⌝ }
-    ensures { λ r. ⌜ r ≡ asked + countOf more ⌝ }
+// Once, if the operator was asked.
+fn count_of(asked: bool) -> usize
+    ensures { λ r. ⌜ r ≡ countOf asked ⌝ }
 {
-    if more {
-        return asked + 1;
+    if asked {
+        return 1;
     }
-    asked
+    0
 }
 
-// What the child is granted: a path, or with none switch 1. False, and nothing changes, where there is no room.
-fn grant(child: &mut [u8], d: Descriptor, q: &[u8]) -> bool
+// Whether a check passes that comes to a state.
+fn is_passed(state: PermissionState) -> bool
+    ensures { λ r. ⌜ r ≡ passes state ⌝ }
+{
+    match state {
+        PermissionState::Granted => true,
+        PermissionState::GrantedPartial => false,
+        PermissionState::Prompt => false,
+        PermissionState::Denied => false,
+        PermissionState::DeniedPartial => false,
+        PermissionState::Ignored => false,
+    }
+}
+
+// What the child is granted if the parent's check passes: a path, or with none switch 1.
+fn pass_on(child: &mut [u8], state: PermissionState, d: Descriptor, q: &[u8]) -> Outcome
     requires { ⌜ holds (now child) ≡ true ⌝ }
-    requires { ⌜ (d ≡ Path → isEntry (record { kind = G; path = now q }) ≡ true) ⌝ }
-    ensures { λ r. ⌜ CarriesOut (now (child .entry)) (now (child .exit)) (some (grantAct (tableOf (now (child .entry))) (queryOf d (now (q .entry))))) r ⌝ }
+    requires { ⌜ isQuery (queryOf d (now q)) ≡ true ⌝ }
+    ensures { λ r. ⌜ MakesChild (passedOn state (queryOf d (now (q .entry))) (tableOf (now (child .entry)))) (now (child .entry)) (now (child .exit)) r ⌝ }
 {
+    if !is_passed(state) {
+        return Outcome::Refused(Refusal::Escalation);
+    }
     let action = grant_action(child, d);
-    carry_out(child, action, q)
-}
-
-// An item that is resolved: the parent's check, and what the child is granted if it passes.
-fn grant_resolved(
-    parent: &mut [u8],
-    child: &mut [u8],
-    d: Descriptor,
-    q: &[u8],
-    response: PromptResponse,
-    asked: usize,
-) -> ChildMade
-    requires { ⌜ (holds (now parent) ≡ true) × (holds (now child) ≡ true) × (asked ≤ 64) ⌝ }
-    requires { ⌜ (d ≡ Path → isEntry (record { kind = G; path = now q }) ≡ true) ⌝ }
-    ensures { λ r. ⌜ Makes (resolvedStep (queryOf d (now (q .entry))) response (makingOf (now (parent .entry)) (now (child .entry)) asked)) (now (parent .entry)) (now (child .entry)) (now (parent .exit)) (now (child .exit)) r ⌝ }
-{
-    let decided = check_desc(parent, d, q, response);
-    let verdict = decided.verdict;
-    let more = decided.asked;
-    let action = decided.action;
-    if !carry_out(parent, action, q) {
-        return refused(Refusal::TableFull, asked);
-    }
-    let count = counted(asked, more);
-    match verdict {
-        Verdict::Failed(_) => refused(Refusal::Escalation, count),
-        Verdict::Passed => {
-            if grant(child, d, q) {
-                return done(count);
-            }
-            refused(Refusal::TableFull, count)
-        }
-    }
+    carry_out(child, Numbering::Plain, action, q)
 }
 
 // One item, as given with the working directory, or with no path.
-pub fn grant_item(
+fn grant_item(
     parent: &mut [u8],
     child: &mut [u8],
     d: Descriptor,
     given: &[u8],
     cwd: &[u8],
-    response: u32,
-    asked: usize,
+    response: PromptResponse,
 ) -> ChildMade
-    requires { ⌜ (holds (now parent) ≡ true) × (holds (now child) ≡ true) × (asked ≤ 64) ⌝ }
-    ensures { λ r. ⌜ Makes (itemStep (now (cwd .entry)) (record { descriptor = d; given = now (given .entry); response = response }) (makingOf (now (parent .entry)) (now (child .entry)) asked)) (now (parent .entry)) (now (child .entry)) (now (parent .exit)) (now (child .exit)) r ⌝ }
+    requires { ⌜ (holds (now parent) ≡ true) × (holds (now child) ≡ true) ⌝ }
+    ensures { λ r. ⌜ GrantsItem (now (cwd .entry)) (record { descriptor = d; given = now (given .entry); response = response }) (now (parent .entry)) (now (child .entry)) (now (parent .exit)) (now (child .exit)) r ⌝ }
 {
-    let known = response_from(response);
-    match d {
-        Descriptor::NoPath => grant_resolved(parent, child, d, b"", known, asked),
-        Descriptor::Path => {
-            let mut resolved = [0u8; 1024];
-            match resolve(given, cwd, &mut resolved) {
-                Resolution::Refused(cause) => refused(cause, asked),
-                Resolution::Resolved(n) => grant_resolved(
-                    parent,
-                    child,
-                    d,
-                    &resolved[..n],
-                    known,
-                    asked,
-                ),
+    let mut resolved = [0u8; MAX_PATH];
+    match settle(
+        parent,
+        Numbering::Plain,
+        Call::Check,
+        d,
+        given,
+        cwd,
+        response,
+        &mut resolved,
+    ) {
+        Settled::Refused(cause) => refused(cause, 0),
+        Settled::Decided(state, asked, _, n) => {
+            let outcome = pass_on(child, state, d, &resolved[..n]);
+            ChildMade {
+                outcome,
+                asked: count_of(asked),
             }
         }
     }
 }
 
 // The items of a list, one by one, until one is refused.
-pub fn grant_items(
+fn grant_items(
     parent: &mut [u8],
     child: &mut [u8],
     bytes: &[u8],
@@ -141,13 +124,12 @@ pub fn grant_items(
     responses: &[u32],
     cwd: &[u8],
 ) -> ChildMade
-    requires { ⌜ (holds (now parent) ≡ true) × (holds (now child) ≡ true) ⌝ }
-    requires { ⌜ (closeAt (length (now bytes)) 0 (now ends) ≡ true) × (length (now responses) ≡ length (now ends)) × (length (now ends) ≤ 64) ⌝ }
-    ensures { λ r. ⌜ Makes (inTurn (itemStep (now (cwd .entry))) (listItems (now (bytes .entry)) 0 (now (ends .entry)) (now (responses .entry))) (makingOf (now (parent .entry)) (now (child .entry)) 0)) (now (parent .entry)) (now (child .entry)) (now (parent .exit)) (now (child .exit)) r ⌝ }
+    requires { ⌜ (holds (now parent) ≡ true) × (holds (now child) ≡ true) × Listed (now bytes) (now ends) (now responses) ⌝ }
+    ensures { λ r. ⌜ GrantsItems (now (cwd .entry)) (listItems (now (bytes .entry)) 0 (now (ends .entry))) (now (responses .entry)) (now (parent .entry)) (now (child .entry)) (now (parent .exit)) (now (child .exit)) r ⌝ }
 {
-    let mut asked = 0;
-    let mut from = 0;
-    let mut i = 0;
+    let mut asked: usize = 0;
+    let mut from: usize = 0;
+    let mut i: usize = 0;
     while i < ends.len() {
         let end = ends[i] as usize;
         let made = grant_item(
@@ -156,10 +138,9 @@ pub fn grant_items(
             Descriptor::Path,
             &bytes[from..end],
             cwd,
-            responses[i],
-            asked,
+            response_at(responses, i),
         );
-        asked = made.asked;
+        asked += made.asked;
         let outcome = made.outcome;
         if let Outcome::Refused(cause) = outcome {
             return refused(cause, asked);
@@ -168,4 +149,40 @@ pub fn grant_items(
         i += 1;
     }
     done(asked)
+}
+
+// The items of any argument.
+pub(crate) fn grant_all(
+    parent: &mut [u8],
+    child: &mut [u8],
+    arg: ChildUnaryPermissionArg,
+    bytes: &[u8],
+    ends: &[u32],
+    responses: &[u32],
+    cwd: &[u8],
+) -> ChildMade
+    requires { ⌜ (holds (now parent) ≡ true) × (holds (now child) ≡ true) ⌝ }
+    requires { ⌜ (areResponses (now responses) ≡ true) × (areInOrder arg (now bytes) (now ends) (now responses) ≡ true) ⌝ }
+    ensures { λ r. ⌜ GrantsItems (now (cwd .entry)) (itemsOf arg (now (bytes .entry)) (now (ends .entry))) (now (responses .entry)) (now (parent .entry)) (now (child .entry)) (now (parent .exit)) (now (child .exit)) r ⌝ }
+{
+    match arg {
+        ChildUnaryPermissionArg::Inherit => done(0),
+        ChildUnaryPermissionArg::NotGranted => done(0),
+        ChildUnaryPermissionArg::Granted => grant_item(
+            parent,
+            child,
+            Descriptor::NoPath,
+            b"",
+            cwd,
+            response_at(responses, 0),
+        ),
+        ChildUnaryPermissionArg::GrantedList => grant_items(
+            parent,
+            child,
+            bytes,
+            ends,
+            responses,
+            cwd,
+        ),
+    }
 }

@@ -1,36 +1,45 @@
 // What a child takes over from its parent: the whole table where it inherits, and in any case the switches and each D, I and P.
-use calls::deciding::switch_on;
-use paths::copying::copy_in;
-use refusals::Refusal;
+use crate::ChildUnaryPermissionArg;
+use table::Action;
+use table::Cursor;
+use table::GRANTED;
+use table::Numbering;
 use table::Outcome;
+use table::acting::make_fresh;
+use table::bits;
+use table::carrying::carry_out;
 use table::comparing::is_granted;
-use table::placing::insert_entry;
-use table::reading::entry_offset;
-use table::reading::kind_from;
-use table::reading::word_at;
-use table::revoking::set_switches_byte;
-use walk::walking::has;
+use table::copying::copy_table;
+use table::reading;
 ghost use mathlib.Core.Path.{_≡_};
 ghost use mathlib.Core.Bool.{true};
-ghost use mathlib.Core.List.{List};
-ghost use Prim.Native.Nat.{ℕ, _≤_};
+ghost use Prim.Native.Nat.{_≤_};
 ghost use lib.ListN.{length};
-ghost use Rattle.table.specs.Tables.{maxSwitches, isEntry};
-ghost use Rattle.table.specs.Acts.{setSwitches, applyAct};
-ghost use Rattle.table.specs.Memory.{tableBytes, entryAt, nextAt, tableOf, holds, put};
-ghost use Rattle.child.specs.Making.{childSwitches, inTurn, reinsert, takeOver};
-ghost use Rattle.child.specs.Calls.{makingOf, MakesChild};
+ghost use Rattle.table.specs.Entries.{isGranted};
+ghost use Rattle.table.specs.Tables.{maxSwitches};
+ghost use Rattle.table.specs.Acts.{setSwitches};
+ghost use Rattle.table.specs.Memory.{tableBytes, tableOf, holds, put};
+ghost use Rattle.table.specs.Reading.{Reads, entryIn};
+ghost use Rattle.child.specs.Making.{grantedBy, granting, childSwitches, reinserts, takeOver, firstChild};
+ghost use Rattle.child.specs.Steps.{MakesChild, reinsertedBy};
 
-const GRANTED: u8 = 1;
-
-// Copies the parent's table.
-pub fn copy_table(parent: &[u8], child: &mut [u8])
+// The child's first table: its parent's copy, or a fresh one.
+pub(crate) fn begin(parent: &[u8], child: &mut [u8], arg: ChildUnaryPermissionArg)
     requires { ⌜ (holds (now parent) ≡ true) × (tableBytes ≤ length (now child)) ⌝ }
-    ensures { λ _. ⌜ now (child .exit) ≡ put (tableOf (now (parent .entry))) (now (child .entry)) ⌝ }
+    ensures { λ _. ⌜ now (child .exit) ≡ put (firstChild arg (tableOf (now (parent .entry)))) (now (child .entry)) ⌝ }
 {
-    let count = word_at(parent, 0);
-    let end = entry_offset(parent, count);
-    copy_in(child, 0, &parent[0..end]);
+    match arg {
+        ChildUnaryPermissionArg::Inherit => copy_table(parent, child),
+        ChildUnaryPermissionArg::Granted => {
+            make_fresh(child);
+        }
+        ChildUnaryPermissionArg::NotGranted => {
+            make_fresh(child);
+        }
+        ChildUnaryPermissionArg::GrantedList => {
+            make_fresh(child);
+        }
+    }
 }
 
 // Switch 1 is the child's own, the others are the parent's.
@@ -38,64 +47,63 @@ fn child_switches(parent: u8, child: u8) -> u8
     requires { ⌜ parent ≤ maxSwitches ⌝ }
     ensures { λ r. ⌜ r ≡ childSwitches parent child ⌝ }
 {
-    if has(child, GRANTED) {
-        return switch_on(parent, GRANTED);
+    if bits::has(child, GRANTED) {
+        return bits::set_bit(parent, GRANTED);
     }
-    if has(parent, GRANTED) {
-        return parent - GRANTED;
-    }
-    parent
+    bits::clear_bit(parent, GRANTED)
 }
 
 // The child's switches, with the parent's table as it is.
-fn take_switches(parent: &[u8], child: &mut [u8])
+fn take_switches(parent: &[u8], child: &mut [u8]) -> Outcome
     requires { ⌜ (holds (now parent) ≡ true) × (holds (now child) ≡ true) ⌝ }
-    ensures { λ _. ⌜ now (child .exit) ≡ put (applyAct (tableOf (now (child .entry))) (setSwitches (childSwitches (tableOf (now (parent .entry)) .switches) (tableOf (now (child .entry)) .switches)))) (now (child .entry)) ⌝ }
+    ensures { λ r. ⌜ MakesChild (grantedBy (setSwitches (childSwitches (tableOf (now (parent .entry)) .switches) (tableOf (now (child .entry)) .switches))) (tableOf (now (child .entry)))) (now (child .entry)) (now (child .exit)) r ⌝ }
 {
-    let switches = child_switches(parent[2], child[2]);
-    set_switches_byte(child, switches);
+    let switches = child_switches(reading::switches(parent), reading::switches(child));
+    carry_out(child, Numbering::Plain, Action::SetSwitches(switches), b"")
 }
 
-// Inserts the parent's entry at an offset again, unless it is a G. Refused, and nothing changes, where there is no room.
-fn reinsert_at(parent: &[u8], at: usize, child: &mut [u8]) -> Outcome
-    requires { ⌜ (nextAt (now parent) at ≤ length (now parent)) × (isEntry (entryAt (now parent) at) ≡ true) × (holds (now child) ≡ true) ⌝ }
-    ensures { λ r. ⌜ ((m : List ℕ) (asked : ℕ) → MakesChild (reinsert (entryAt (now (parent .entry)) at) (makingOf m (now (child .entry)) asked)) (now (child .entry)) (now (child .exit)) r) ⌝ }
+// Inserts the parent's entry where a cursor stands again, unless it is a G.
+fn reinsert(parent: &[u8], cursor: Cursor, child: &mut [u8]) -> Outcome
+    requires { ⌜ Reads (now parent) cursor ⌝ }
+    requires { ⌜ holds (now child) ≡ true ⌝ }
+    ensures { λ r. ⌜ MakesChild (reinsertedBy (isGranted (entryIn (now (parent .entry)) cursor .kind)) (entryIn (now (parent .entry)) cursor) (tableOf (now (child .entry)))) (now (child .entry)) (now (child .exit)) r ⌝ }
 {
-    let kind = kind_from(parent[at]);
+    let kind = reading::kind(parent, cursor);
     if is_granted(kind) {
         return Outcome::Done;
     }
-    let from = at + 3;
-    let end = from + word_at(parent, at + 1);
-    if insert_entry(child, kind, &parent[from..end]) {
-        return Outcome::Done;
-    }
-    Outcome::Refused(Refusal::TableFull)
+    carry_out(
+        child,
+        Numbering::Plain,
+        Action::Insert(kind),
+        reading::path(parent, cursor),
+    )
 }
 
 // Inserts each D, I and P of the parent again.
 fn reinsert_all(parent: &[u8], child: &mut [u8]) -> Outcome
     requires { ⌜ (holds (now parent) ≡ true) × (holds (now child) ≡ true) ⌝ }
-    ensures { λ r. ⌜ ((asked : ℕ) → MakesChild (inTurn reinsert (tableOf (now (parent .entry)) .entries) (makingOf (now (parent .entry)) (now (child .entry)) asked)) (now (child .entry)) (now (child .exit)) r) ⌝ }
+    ensures { λ r. ⌜ MakesChild (granting (reinserts (tableOf (now (parent .entry)) .entries)) (tableOf (now (child .entry)))) (now (child .entry)) (now (child .exit)) r ⌝ }
 {
-    let mut left = word_at(parent, 0);
-    let mut at = 4;
-    while left > 0 {
-        let outcome = reinsert_at(parent, at, child);
+    let mut cursor = reading::first(parent);
+    while reading::is_at_entry(cursor) {
+        let outcome = reinsert(parent, cursor, child);
         if let Outcome::Refused(_) = outcome {
             return outcome;
         }
-        at = at + 3 + word_at(parent, at + 1);
-        left -= 1;
+        cursor = reading::advance(parent, cursor);
     }
     Outcome::Done
 }
 
 // The parent's switches, and each D, I and P again.
-pub fn take_over(parent: &[u8], child: &mut [u8]) -> Outcome
+pub(crate) fn take_over(parent: &[u8], child: &mut [u8]) -> Outcome
     requires { ⌜ (holds (now parent) ≡ true) × (holds (now child) ≡ true) ⌝ }
-    ensures { λ r. ⌜ ((asked : ℕ) → MakesChild (takeOver (makingOf (now (parent .entry)) (now (child .entry)) asked)) (now (child .entry)) (now (child .exit)) r) ⌝ }
+    ensures { λ r. ⌜ MakesChild (takeOver (tableOf (now (parent .entry))) (tableOf (now (child .entry)))) (now (child .entry)) (now (child .exit)) r ⌝ }
 {
-    take_switches(parent, child);
+    let outcome = take_switches(parent, child);
+    if let Outcome::Refused(_) = outcome {
+        return outcome;
+    }
     reinsert_all(parent, child)
 }

@@ -6,12 +6,21 @@ pub mod creating;
 pub mod granting;
 pub mod inheriting;
 
+// The most items of a child list.
+pub const MAX_ITEMS: usize = 64;
+
 // What a child is to have, with the Rust's names: document 01's child codes Inherit, Granted, NotGranted and list, in its order.
 pub enum ChildUnaryPermissionArg {
     Inherit,
     Granted,
     NotGranted,
     GrantedList,
+}
+
+// The argument that a child code names, if it names one.
+pub enum ArgRead {
+    Arg(ChildUnaryPermissionArg),
+    Unknown,
 }
 
 // What a child call answers, and how often the operator was asked.

@@ -1,49 +1,37 @@
 // The calls for the controller's C program: numbers and byte slices, over a table in lent memory. permissions.h documents them for C.
 // Every result is one number: 0 or more is the answer, and −n is refusal n of document 01.
-use calls::CheckAnswer;
-use calls::Checked;
-use calls::Requested;
-use calls::Verdict;
-use calls::calling;
+use calls::Call;
+use calls::asking::ask;
+use paths::Descriptor;
 use refusals::Refusal;
+use refusals::refusal_number;
 use table::Outcome;
 use table::acting;
 use walk::Answer;
-use walk::Descriptor;
-use walk::querying;
+use walk::querying::query;
 use walk::walking::state_number;
 ghost use mathlib.Core.Path.{_≡_};
-ghost use mathlib.Core.List.{List, []};
-ghost use Prim.Native.Nat.{ℕ, _+_, _*_, _≤_};
-ghost use lib.IntN.{pos};
-ghost use Rattle.table.specs.Tables.{fresh};
-ghost use Rattle.table.specs.Acts.{applyAct, insert, setSwitches, revoke, revokeAll};
-ghost use Rattle.table.specs.Memory.{tableOf};
-ghost use Rattle.table.specs.Calls.{freshConditions, tableConditions, switchesConditions, givenEntry, insertConditions, revokeConditions};
-ghost use Rattle.paths.specs.Resolving.{resolve};
-ghost use Rattle.walk.specs.declared.Descriptor.the-variants.{NoPath, Path};
-ghost use Rattle.walk.specs.Calls.{queryAnswer};
-ghost use Rattle.calls.specs.Texts.{textOf};
-ghost use Rattle.calls.specs.Calls.{textBytes, checkCause, checkGiven, requestCause, requestGiven};
-ghost use Rattle.controller.specs.Numbers.{refusedNumber, outcomeNumber, answerNumber, verdictNumber, askedNumber, checkNumber, requestNumber, Exported, ExportedCheck, ExportedRequest};
+ghost use mathlib.Core.List.{[]};
+ghost use Prim.Native.Nat.{_≤_};
+ghost use Rattle.paths.specs.declared.Descriptor.the-variants.{NoPath, Path};
+ghost use Rattle.calls.specs.declared.Call.the-variants.{Check, Request};
+ghost use Rattle.controller.specs.Numbers.{
+  refusedNumber,
+  outcomeNumber,
+  answerNumber,
+  askedBit,
+  ExportedFresh,
+  ExportedInsert,
+  ExportedSwitches,
+  ExportedQuery,
+  ExportedAsk,
+};
 
 // A refusal as a result.
 fn refused(cause: Refusal) -> i32
     ensures { λ r. ⌜ r ≡ refusedNumber cause ⌝ }
 {
-    match cause {
-        Refusal::NoTable => -1,
-        Refusal::NoSpace => -2,
-        Refusal::Unknown => -3,
-        Refusal::EmptyPath => -4,
-        Refusal::PathTooLong => -5,
-        Refusal::BadDirectory => -6,
-        Refusal::ResolvedTooLong => -7,
-        Refusal::TableFull => -8,
-        Refusal::NumbersUsedUp => -9,
-        Refusal::Escalation => -10,
-        Refusal::MalformedRecord => -11,
-    }
+    -(refusal_number(cause) as i32)
 }
 
 fn outcome_number(outcome: Outcome) -> i32
@@ -55,26 +43,19 @@ fn outcome_number(outcome: Outcome) -> i32
     }
 }
 
-fn answer_number(answer: Answer) -> i32
-    ensures { λ r. ⌜ r ≡ answerNumber answer ⌝ }
+// An answer's number, with what is packed above its state.
+fn answer_number(answer: Answer, above: usize) -> i32
+    requires { ⌜ above ≤ 65536 ⌝ }
+    ensures { λ r. ⌜ r ≡ answerNumber answer above ⌝ }
 {
     match answer {
-        Answer::State(state) => state_number(state) as i32,
+        Answer::State(state) => (state_number(state) as usize + above) as i32,
         Answer::Refused(cause) => refused(cause),
     }
 }
 
-fn verdict_number(verdict: Verdict) -> u8
-    ensures { λ r. ⌜ r ≡ verdictNumber verdict ⌝ }
-{
-    match verdict {
-        Verdict::Passed => 0,
-        Verdict::Failed(state) => state_number(state),
-    }
-}
-
-fn asked_number(asked: bool) -> usize
-    ensures { λ r. ⌜ r ≡ askedNumber asked ⌝ }
+fn asked_bit(asked: bool) -> usize
+    ensures { λ r. ⌜ (r ≡ askedBit asked) × (r ≤ 16) ⌝ }
 {
     if asked {
         return 16;
@@ -82,45 +63,27 @@ fn asked_number(asked: bool) -> usize
     0
 }
 
-// A verdict's or a state's number, with whether the operator was asked and how long the text is.
-fn packed(state: u8, asked: bool, text: usize) -> i32
-    requires { ⌜ text ≤ textBytes ⌝ }
-    ensures { λ r. ⌜ r ≡ pos (state + askedNumber asked + text * 32) ⌝ }
+// Checks or requests. The text's size and whether the operator was asked are packed above the state.
+fn asked(
+    mem: &mut [u8],
+    call: Call,
+    d: Descriptor,
+    path: &[u8],
+    cwd: &[u8],
+    response: u32,
+    space: &mut [u8],
+) -> i32
+    ensures { λ r. ⌜ ExportedAsk call (now (mem .entry)) (now (space .entry)) d (now (path .entry)) (now (cwd .entry)) response (now (mem .exit)) (now (space .exit)) r ⌝ }
 {
-    let sum = state as usize + asked_number(asked) + text * 32;
-    sum as i32
-}
-
-fn check_number(checked: Checked) -> i32
-    requires { ⌜ checked .text ≤ textBytes ⌝ }
-    ensures { λ r. ⌜ r ≡ checkNumber checked ⌝ }
-{
-    let answer = checked.answer;
-    match answer {
-        CheckAnswer::Refused(cause) => refused(cause),
-        CheckAnswer::Decided(verdict) => packed(
-            verdict_number(verdict),
-            checked.asked,
-            checked.text,
-        ),
-    }
-}
-
-fn request_number(requested: Requested) -> i32
-    requires { ⌜ requested .text ≤ textBytes ⌝ }
-    ensures { λ r. ⌜ r ≡ requestNumber requested ⌝ }
-{
-    let answer = requested.answer;
-    match answer {
-        Answer::Refused(cause) => refused(cause),
-        Answer::State(state) => packed(state_number(state), requested.asked, requested.text),
-    }
+    let asked = ask(mem, call, d, path, cwd, response, space);
+    let answer = asked.answer;
+    answer_number(answer, asked_bit(asked.asked) + asked.text * 32)
 }
 
 // Writes a fresh table into memory.
 #[no_mangle]
 pub extern "C" fn permissions_fresh(mem: &mut [u8]) -> i32
-    ensures { λ r. ⌜ Exported (freshConditions (now (mem .entry))) fresh (now (mem .entry)) (now (mem .exit)) r ⌝ }
+    ensures { λ r. ⌜ ExportedFresh (now (mem .entry)) (now (mem .exit)) r ⌝ }
 {
     outcome_number(acting::make_fresh(mem))
 }
@@ -128,7 +91,7 @@ pub extern "C" fn permissions_fresh(mem: &mut [u8]) -> i32
 // Inserts an entry of a kind.
 #[no_mangle]
 pub extern "C" fn permissions_insert(mem: &mut [u8], kind: u32, path: &[u8], cwd: &[u8]) -> i32
-    ensures { λ r. ⌜ Exported (insertConditions (now (mem .entry)) kind (now (path .entry)) (now (cwd .entry))) (applyAct (tableOf (now (mem .entry))) (insert (givenEntry kind (now (path .entry)) (now (cwd .entry))))) (now (mem .entry)) (now (mem .exit)) r ⌝ }
+    ensures { λ r. ⌜ ExportedInsert (now (mem .entry)) kind (now (path .entry)) (now (cwd .entry)) (now (mem .exit)) r ⌝ }
 {
     outcome_number(acting::insert(mem, kind, path, cwd))
 }
@@ -136,7 +99,7 @@ pub extern "C" fn permissions_insert(mem: &mut [u8], kind: u32, path: &[u8], cwd
 // Sets the switches, all five together.
 #[no_mangle]
 pub extern "C" fn permissions_switches(mem: &mut [u8], switches: u32) -> i32
-    ensures { λ r. ⌜ Exported (switchesConditions (now (mem .entry)) switches) (applyAct (tableOf (now (mem .entry))) (setSwitches switches)) (now (mem .entry)) (now (mem .exit)) r ⌝ }
+    ensures { λ r. ⌜ ExportedSwitches (now (mem .entry)) switches (now (mem .exit)) r ⌝ }
 {
     outcome_number(acting::set_switches(mem, switches))
 }
@@ -144,17 +107,17 @@ pub extern "C" fn permissions_switches(mem: &mut [u8], switches: u32) -> i32
 // What a path has for an answer in a mode.
 #[no_mangle]
 pub extern "C" fn permissions_query(mem: &[u8], mode: u32, path: &[u8], cwd: &[u8]) -> i32
-    ensures { λ r. ⌜ r ≡ answerNumber (queryAnswer (now (mem .entry)) mode Path (now (path .entry)) (now (cwd .entry))) ⌝ }
+    ensures { λ r. ⌜ ExportedQuery (now (mem .entry)) mode Path (now (path .entry)) (now (cwd .entry)) r ⌝ }
 {
-    answer_number(querying::query(mem, mode, Descriptor::Path, path, cwd))
+    answer_number(query(mem, mode, Descriptor::Path, path, cwd), 0)
 }
 
 // What the call with no path has for an answer in a mode.
 #[no_mangle]
 pub extern "C" fn permissions_query_all(mem: &[u8], mode: u32) -> i32
-    ensures { λ r. ⌜ ((p cwd : List ℕ) → r ≡ answerNumber (queryAnswer (now (mem .entry)) mode NoPath p cwd)) ⌝ }
+    ensures { λ r. ⌜ ExportedQuery (now (mem .entry)) mode NoPath [] [] r ⌝ }
 {
-    answer_number(querying::query(mem, mode, Descriptor::NoPath, b"", b""))
+    answer_number(query(mem, mode, Descriptor::NoPath, b"", b""), 0)
 }
 
 // Checks a path. The text space gets the text where the operator is asked and where the check fails.
@@ -166,17 +129,33 @@ pub extern "C" fn permissions_check(
     response: u32,
     space: &mut [u8],
 ) -> i32
-    ensures { λ r. ⌜ ExportedCheck (checkCause (now (mem .entry)) (now (space .entry)) response Path (now (path .entry)) (now (cwd .entry))) (checkGiven (tableOf (now (mem .entry))) response Path (now (path .entry)) (now (cwd .entry))) (textOf Path (now (path .entry)) (resolve (now (path .entry)) (now (cwd .entry)))) (now (mem .entry)) (now (space .entry)) (now (mem .exit)) (now (space .exit)) r ⌝ }
+    ensures { λ r. ⌜ ExportedAsk Check (now (mem .entry)) (now (space .entry)) Path (now (path .entry)) (now (cwd .entry)) response (now (mem .exit)) (now (space .exit)) r ⌝ }
 {
-    check_number(calling::check(mem, Descriptor::Path, path, cwd, response, space))
+    asked(
+        mem,
+        Call::Check,
+        Descriptor::Path,
+        path,
+        cwd,
+        response,
+        space,
+    )
 }
 
 // Checks reading as a whole, with no path.
 #[no_mangle]
 pub extern "C" fn permissions_check_all(mem: &mut [u8], response: u32, space: &mut [u8]) -> i32
-    ensures { λ r. ⌜ ExportedCheck (checkCause (now (mem .entry)) (now (space .entry)) response NoPath [] []) (checkGiven (tableOf (now (mem .entry))) response NoPath [] []) (textOf NoPath [] []) (now (mem .entry)) (now (space .entry)) (now (mem .exit)) (now (space .exit)) r ⌝ }
+    ensures { λ r. ⌜ ExportedAsk Check (now (mem .entry)) (now (space .entry)) NoPath [] [] response (now (mem .exit)) (now (space .exit)) r ⌝ }
 {
-    check_number(calling::check(mem, Descriptor::NoPath, b"", b"", response, space))
+    asked(
+        mem,
+        Call::Check,
+        Descriptor::NoPath,
+        b"",
+        b"",
+        response,
+        space,
+    )
 }
 
 // Requests a path. The text space gets the text where the operator is asked.
@@ -188,15 +167,31 @@ pub extern "C" fn permissions_request(
     response: u32,
     space: &mut [u8],
 ) -> i32
-    ensures { λ r. ⌜ ExportedRequest (requestCause (now (mem .entry)) (now (space .entry)) response Path (now (path .entry)) (now (cwd .entry))) (requestGiven (tableOf (now (mem .entry))) response Path (now (path .entry)) (now (cwd .entry))) (textOf Path (now (path .entry)) (resolve (now (path .entry)) (now (cwd .entry)))) (now (mem .entry)) (now (space .entry)) (now (mem .exit)) (now (space .exit)) r ⌝ }
+    ensures { λ r. ⌜ ExportedAsk Request (now (mem .entry)) (now (space .entry)) Path (now (path .entry)) (now (cwd .entry)) response (now (mem .exit)) (now (space .exit)) r ⌝ }
 {
-    request_number(calling::request(mem, Descriptor::Path, path, cwd, response, space))
+    asked(
+        mem,
+        Call::Request,
+        Descriptor::Path,
+        path,
+        cwd,
+        response,
+        space,
+    )
 }
 
 // Requests reading as a whole, with no path.
 #[no_mangle]
 pub extern "C" fn permissions_request_all(mem: &mut [u8], response: u32, space: &mut [u8]) -> i32
-    ensures { λ r. ⌜ ExportedRequest (requestCause (now (mem .entry)) (now (space .entry)) response NoPath [] []) (requestGiven (tableOf (now (mem .entry))) response NoPath [] []) (textOf NoPath [] []) (now (mem .entry)) (now (space .entry)) (now (mem .exit)) (now (space .exit)) r ⌝ }
+    ensures { λ r. ⌜ ExportedAsk Request (now (mem .entry)) (now (space .entry)) NoPath [] [] response (now (mem .exit)) (now (space .exit)) r ⌝ }
 {
-    request_number(calling::request(mem, Descriptor::NoPath, b"", b"", response, space))
+    asked(
+        mem,
+        Call::Request,
+        Descriptor::NoPath,
+        b"",
+        b"",
+        response,
+        space,
+    )
 }

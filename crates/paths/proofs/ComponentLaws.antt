@@ -6,7 +6,7 @@ use mathlib.Core.List.{List, [], _∷_, _++_, dropLast, nil≢cons, tail-eq-of-c
 use mathlib.Core.Bool.{Bool, true, false, _&&_, false≢true}
 use lib.Dec.{eqb}
 use borrow.Author.Tests.{eq-eqb, ne-eqb, eqb-true, eqb-false}
-use Rattle.paths.specs.Components.{slash, same, grown, parted, pieces, components, slashed}
+use Rattle.paths.specs.Components.{slash, same, grown, parted, pieces, slashed}
 
 -- ---- the two parts of a test
 

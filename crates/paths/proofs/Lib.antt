@@ -6,3 +6,4 @@ pub mod CopyLaws
 pub mod Scanning
 pub mod Entering
 pub mod Answering
+pub mod GivingLaws

@@ -1,5 +1,6 @@
 pub mod Components
 pub mod Resolving
+pub mod Giving
 pub mod Relations
 pub mod Relating
 pub mod Copying

@@ -2,8 +2,15 @@
 use refusals::Refusal;
 
 pub mod copying;
+pub mod giving;
 pub mod relating;
 pub mod resolving;
+
+// The longest path, as given, resolved, or of a working directory.
+pub const MAX_PATH: usize = 1024;
+
+// Room for the components of a working directory and of a path behind them, each after a slash.
+const JOINED_BYTES: usize = 2050;
 
 // How one path relates to another.
 pub enum Relation {
@@ -15,6 +22,12 @@ pub enum Relation {
     // Neither, and before or after the other in path order.
     Less,
     Greater,
+}
+
+// What a call is given: no path, or the path whose bytes are lent beside it.
+pub enum Descriptor {
+    NoPath,
+    Path,
 }
 
 // What resolving a path answers: the length of the resolved path, or why there is none.

@@ -1,4 +1,6 @@
 // Resolved form, and resolving a path in a working directory.
+use crate::JOINED_BYTES;
+use crate::MAX_PATH;
 use crate::Resolution;
 use crate::copying::copy_in;
 use refusals::Refusal;
@@ -225,7 +227,7 @@ fn is_bad_directory(path: &[u8], cwd: &[u8]) -> bool
     if cwd.len() == 0 {
         return true;
     }
-    if cwd.len() > 1024 {
+    if cwd.len() > MAX_PATH {
         return true;
     }
     !is_absolute(cwd)
@@ -244,11 +246,11 @@ fn enter_joined(work: &mut [u8], path: &[u8], cwd: &[u8]) -> usize
 }
 
 // Copies the resolved path into the lent space, where it is not too long.
-fn hand_over(work: &[u8], len: usize, space: &mut [u8; 1024]) -> Resolution
+fn hand_over(work: &[u8], len: usize, space: &mut [u8; MAX_PATH]) -> Resolution
     requires { ⌜ len ≤ length (now work) ⌝ }
     ensures { λ r. ⌜ Answers (rooted (take len (now (work .entry)))) (tooLong (rooted (take len (now (work .entry))))) (now (space .entry)) r (now (space .exit)) ⌝ }
 {
-    if len > 1024 {
+    if len > MAX_PATH {
         return Resolution::Refused(Refusal::ResolvedTooLong);
     }
     if len == 0 {
@@ -260,19 +262,19 @@ fn hand_over(work: &[u8], len: usize, space: &mut [u8; 1024]) -> Resolution
 }
 
 // Resolves a path given in a working directory into the lent space, from its start.
-pub fn resolve(path: &[u8], cwd: &[u8], space: &mut [u8; 1024]) -> Resolution
+pub fn resolve(path: &[u8], cwd: &[u8], space: &mut [u8; MAX_PATH]) -> Resolution
     ensures { λ r. ⌜ Resolves (now (path .entry)) (now (cwd .entry)) (now (space .entry)) r (now (space .exit)) ⌝ }
 {
     if path.len() == 0 {
         return Resolution::Refused(Refusal::EmptyPath);
     }
-    if path.len() > 1024 {
+    if path.len() > MAX_PATH {
         return Resolution::Refused(Refusal::PathTooLong);
     }
     if is_bad_directory(path, cwd) {
         return Resolution::Refused(Refusal::BadDirectory);
     }
-    let mut work = [0u8; 2050];
+    let mut work = [0u8; JOINED_BYTES];
     let len = enter_joined(&mut work, path, cwd);
     hand_over(&work, len, space)
 }

@@ -1,12 +1,12 @@
--- Laws of the first condition that holds.
-use mathlib.Core.Path.{_≡_, refl, _∙_}
-use mathlib.Core.List.{List, [], _∷_, _++_}
+-- Laws of the checking order: the first condition that holds, and what is handed on where none does.
+use mathlib.Core.Path.{_≡_, refl}
+use mathlib.Core.List.{List, _∷_}
 use mathlib.Core.Option.{Option, none, some}
 use mathlib.Core.Bool.{Bool, true, false, cond}
 use Prim.Native.Nat.{ℕ}
 use native.Mathlib.Omega.{arith}
 use Rattle.refusals.specs.declared.Refusal.{Refusal}
-use Rattle.refusals.specs.Refusals.{Condition, when, firstCause}
+use Rattle.refusals.specs.Refusals.{Condition, when, firstCause, ok, unless}
 
 pub cause-holds : {b : Bool} (cause : Refusal) (rest : List Condition) → b ≡ true → firstCause (when b cause ∷ rest) ≡ some cause
 unfolding firstCause
@@ -33,18 +33,8 @@ pub no-cause-tail : (b : Bool) (cause : Refusal) (rest : List Condition) → fir
 unfolding firstCause
 no-cause-tail b cause rest e = none-tail b cause (firstCause rest) e
 
--- conditions behind others come into play where none of those holds
-pub cause-append-none : (a b : List Condition) → firstCause a ≡ none → firstCause (a ++ b) ≡ firstCause b
-cause-append-none [] b e = refl
-cause-append-none (when h cause ∷ a) b e =
-    cause-passes cause (a ++ b) (no-cause-head h cause a e) ∙ cause-append-none a b (no-cause-tail h cause a e)
-
-append-some : (h : Bool) (cause c : Refusal) (rest rest′ : Option Refusal) → (rest ≡ some c → rest′ ≡ some c) → cond h (some cause) rest ≡ some c → cond h (some cause) rest′ ≡ some c
-append-some true cause c rest rest′ f e = e
-append-some false cause c rest rest′ f e = f e
-
-pub cause-append-some : (a b : List Condition) (c : Refusal) → firstCause a ≡ some c → firstCause (a ++ b) ≡ some c
-unfolding firstCause
-cause-append-some [] b c e = let z : _≡_ {A = ℕ} 0 1 = cc in absurd (omega arith)
-cause-append-some (when h cause ∷ a) b c e =
-    append-some h cause c (firstCause a) (firstCause (a ++ b)) (cause-append-some a b c) e
+-- what is handed on where there is no cause
+pub unless-ok : {A : Type 0} (cause : Option Refusal) (a : A) {x : A} → unless cause a ≡ ok x → (cause ≡ none) × (a ≡ x)
+unfolding unless
+unless-ok none a e = (refl, cc)
+unless-ok (some cause) a e = let z : _≡_ {A = ℕ} 0 1 = cc in absurd (omega arith)

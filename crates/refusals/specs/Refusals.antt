@@ -35,7 +35,29 @@ refusalNumber MalformedRecord = 11
 pub data Condition : Type 0 where
   when : Bool → Refusal → Condition
 
--- each cause comes in exactly its condition, when the earlier ones don't hold: the first condition that holds
+-- ---- the checking order: each cause comes in exactly its condition, when the earlier ones don't hold
+
+-- the first condition that holds
 unfoldable pub firstCause : List Condition → Option Refusal
 firstCause [] = none
 firstCause (when holds cause ∷ conditions) = cond holds (some cause) (firstCause conditions)
+
+-- what a step of a call comes to: it is refused, or it hands something on
+pub data Result (A : Type 0) : Type 0 where
+  refused : Refusal → Result A
+  ok : A → Result A
+
+-- the next step, with what this one hands on; a call that is refused goes no further
+unfoldable pub andThen : {A B : Type 0} → Result A → (A → Result B) → Result B
+andThen (refused cause) next = refused cause
+andThen (ok a) next = next a
+
+-- a is handed on unless there is a cause
+unfoldable pub unless : {A : Type 0} → Option Refusal → A → Result A
+unless none a = ok a
+unless (some cause) a = refused cause
+
+-- why it is refused, if it is
+unfoldable pub causeOf : {A : Type 0} → Result A → Option Refusal
+causeOf (refused cause) = some cause
+causeOf (ok a) = none

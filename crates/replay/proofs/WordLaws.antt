@@ -1,7 +1,7 @@
 -- What the contracts of the words say once a `match` has told which answer came.
 use Prim.Native.Nat.{ℕ, _<_, _≤_}
 use mathlib.Core.Path.{_≡_, subst}
-use Rattle.walk.specs.declared.Descriptor.{Descriptor}
+use Rattle.paths.specs.declared.Descriptor.{Descriptor}
 use Rattle.replay.specs.declared.ByteRead.{ByteRead}
 use Rattle.replay.specs.declared.ByteRead.the-variants.{Byte}
 use Rattle.replay.specs.declared.BytesRead.{BytesRead}

@@ -8,14 +8,13 @@ use crate::NumberRead;
 use crate::NumbersRead;
 use crate::Reply;
 use crate::words;
-use calls::CheckAnswer;
-use calls::Checked;
-use calls::Requested;
-use calls::Verdict;
+use calls::Asked;
+use calls::Call;
 use child::ChildMade;
+use paths::Descriptor;
 use table::Outcome;
 use walk::Answer;
-use walk::Descriptor;
+use walk::PermissionState;
 ghost use Prim.Native.Nat.{_≤_};
 ghost use lib.ListN.{length};
 
@@ -62,8 +61,8 @@ pub(crate) fn call(mem: &mut [u8], child: &mut [u8], text: &mut [u8], line: &mut
         Name::Insert => insert(mem, line, next),
         Name::Switches => switches(mem, line, next),
         Name::Query => query(mem, line, next),
-        Name::Check => check_call(mem, text, line, next),
-        Name::Request => request(mem, text, line, next),
+        Name::Check => ask(mem, Call::Check, text, line, next),
+        Name::Request => ask(mem, Call::Request, text, line, next),
         Name::Revoke => revoke(mem, line, next),
         Name::Child => make_child(mem, child, line, next),
         Name::List => show(line, next, Reply::Table),
@@ -155,63 +154,32 @@ fn query(mem: &[u8], line: &mut [u8], at: usize) -> Reply {
     state_reply(walk::querying::query(mem, mode, d, &text[path..path_end], &text[cwd..cwd_end]))
 }
 
-fn verdict_reply(verdict: Verdict, asked: bool, text: usize) -> Reply {
-    match verdict {
-        Verdict::Passed => Reply::Passed(asked, text),
-        Verdict::Failed(state) => Reply::Failed(state, asked, text),
+// A check passes with the state Granted.
+fn verdict_reply(state: PermissionState, asked: bool, text: usize) -> Reply {
+    if let PermissionState::Granted = state {
+        return Reply::Passed(asked, text);
+    }
+    Reply::Failed(state, asked, text)
+}
+
+fn decided_reply(call: Call, state: PermissionState, asked: bool, text: usize) -> Reply {
+    match call {
+        Call::Check => verdict_reply(state, asked, text),
+        Call::Request => Reply::Requested(state, asked, text),
     }
 }
 
-fn check_reply(checked: Checked) -> Reply {
-    let answer = checked.answer;
-    let asked = checked.asked;
-    let text = checked.text;
+fn asked_reply(call: Call, made: Asked) -> Reply {
+    let answer = made.answer;
+    let asked = made.asked;
+    let text = made.text;
     match answer {
-        CheckAnswer::Decided(verdict) => verdict_reply(verdict, asked, text),
-        CheckAnswer::Refused(cause) => Reply::Refused(cause),
-    }
-}
-
-fn check_call(mem: &mut [u8], space: &mut [u8], line: &mut [u8], at: usize) -> Reply {
-    let GivenRead::Given {
-        d,
-        path,
-        path_end,
-        cwd,
-        cwd_end,
-        next,
-    } = words::given(line, at)
-    else {
-        return Reply::Bad;
-    };
-    let NumberRead::Number(response, end) = words::number(line, next) else {
-        return Reply::Bad;
-    };
-    if end <= line.len() {
-        return Reply::Bad;
-    }
-    let text = &line[..];
-    check_reply(calls::calling::check(
-        mem,
-        d,
-        &text[path..path_end],
-        &text[cwd..cwd_end],
-        response,
-        space,
-    ))
-}
-
-fn request_reply(requested: Requested) -> Reply {
-    let answer = requested.answer;
-    let asked = requested.asked;
-    let text = requested.text;
-    match answer {
-        Answer::State(state) => Reply::Requested(state, asked, text),
+        Answer::State(state) => decided_reply(call, state, asked, text),
         Answer::Refused(cause) => Reply::Refused(cause),
     }
 }
 
-fn request(mem: &mut [u8], space: &mut [u8], line: &mut [u8], at: usize) -> Reply {
+fn ask(mem: &mut [u8], call: Call, space: &mut [u8], line: &mut [u8], at: usize) -> Reply {
     let GivenRead::Given {
         d,
         path,
@@ -230,14 +198,16 @@ fn request(mem: &mut [u8], space: &mut [u8], line: &mut [u8], at: usize) -> Repl
         return Reply::Bad;
     }
     let text = &line[..];
-    request_reply(calls::calling::request(
+    let made = calls::asking::ask(
         mem,
+        call,
         d,
         &text[path..path_end],
         &text[cwd..cwd_end],
         response,
         space,
-    ))
+    );
+    asked_reply(call, made)
 }
 
 fn revoke(mem: &mut [u8], line: &mut [u8], at: usize) -> Reply {

@@ -2,8 +2,8 @@
 // the table of the last child. A malformed line is answered by `bad line N`,
 // which ends the run, and so is a line of 1,048,576 bytes or more: the input goes through an array of that length. It knows the calls of
 // `Name`.
+use paths::Descriptor;
 use refusals::Refusal;
-use walk::Descriptor;
 use walk::PermissionState;
 ghost use mathlib.Core.Path.{_≡_};
 ghost use lib.ListN.{length};

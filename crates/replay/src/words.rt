@@ -7,7 +7,7 @@ use crate::ItemsRead;
 use crate::NumberRead;
 use crate::NumbersRead;
 use crate::PathRead;
-use walk::Descriptor;
+use paths::Descriptor;
 ghost use Prim.Native.Nat.{_<_, _≤_};
 ghost use lib.ListN.{length};
 ghost use Rattle.replay.specs.Words.{ByteWithin, BytesWithin, PathWithin, GivenWithin, NumbersWithin, ItemsWithin};

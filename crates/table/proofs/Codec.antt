@@ -25,7 +25,8 @@ use Rattle.table.specs.Memory.{
   encodeAll,
   encode,
 }
-use Rattle.table.proofs.Within.{held, Here, Rest, rest-start, here-suc, rest-suc, rest-take, rest-drop, length-path, length-entries, number-kind}
+use Rattle.table.specs.Reading.{Rest}
+use Rattle.table.proofs.Within.{held, Here, rest-start, here-suc, rest-suc, rest-take, rest-drop, length-path, length-entries, number-kind}
 
 -- every element is a byte
 abbrev pub Bytes : List ℕ → Type 0
@@ -106,11 +107,6 @@ entries-size m (suc n) at r =
       length-encodeEntry (entryAt m at),
       length-path m at (here-suc r .inside),
     ))
-
-pub offset-inside : (m : List ℕ) (n at : ℕ) → at ≤ length m → Rest m n at → offsetAt m n at ≤ length m
-unfolding offsetAt
-offset-inside m zero at h r = h
-offset-inside m (suc n) at h r = offset-inside m n (nextAt m at) (here-suc r .inside) (rest-suc r)
 
 -- the first k of n entries, and those behind them
 pub entries-split : (m : List ℕ) (k n at : ℕ) → k ≤ n

@@ -5,7 +5,7 @@ use mathlib.Core.List.{List, [], _∷_}
 use mathlib.Core.Bool.{Bool, true, false, _&&_, not, cond}
 use lib.IntN.{ℤ, pos, negsuc, negℤ, _-ℤ_}
 use lib.Dec.{eqb, ltb}
-use mir.Syntax.{w8}
+use mir.Syntax.{Width, w8}
 use lib.Signed.{mag}
 use mir.Val.{SFits, toZ, ofZ, hbits}
 use mir.Facts.{sfits-lit, toZ-ofZ}
@@ -150,6 +150,6 @@ negative-is x minus = refl
 negative-is x none = refl
 negative-is x plus = refl
 
--- a signed byte that a call returned
-pub read-back : (x : ℤ) → mag x < 2 ^ hbits w8 → toZ w8 (ofZ w8 x) ≡ x
-read-back x h = toZ-ofZ (record { sfits = h })
+-- a signed number of any width that a call returned
+pub read-back : (w : Width) (x : ℤ) → mag x < 2 ^ hbits w → toZ w (ofZ w x) ≡ x
+read-back w x h = toZ-ofZ (record { sfits = h })

@@ -1,5 +1,6 @@
 pub mod ComparisonLaws
 pub mod PlacingLaws
+pub mod BitLaws
 pub mod TableLaws
 pub mod Within
 pub mod ScanningLaws
@@ -12,6 +13,10 @@ pub mod Inserts
 pub mod FoundLaws
 pub mod ProbeLaws
 pub mod RevokeLaws
+pub mod CarryingLaws
+pub mod ActLaws
+pub mod ReadingLaws
 pub mod CallLaws
 pub mod ListingLaws
 pub mod TableCopies
+pub mod KeepLaws

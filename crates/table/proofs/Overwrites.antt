@@ -1,11 +1,11 @@
--- Laws of `overwrite`: its length, two that touch, and stores that are one.
+-- Laws of `overwrite`: what lies around it, two that touch, and stores that are one.
 use Prim.Native.Nat.{ℕ, _+_, _/_, _%_, _≤_}
 use mathlib.Core.Path.{_≡_, sym, ap, _∙_}
 use mathlib.Core.List.{List, [], _∷_, _++_, append-assoc}
 use native.Mathlib.Omega.{arith}
 use native.Mathlib.Nat.{add-assoc}
 use native.Mathlib.Numerals.{towards-suc}
-use lib.ListN.{length, take, drop, set, length-append, length-drop}
+use lib.ListN.{length, take, drop, set, length-append}
 use lib.Seq.{sets, sets-eq, drop-at, take-append-le, drop-append-add, take-take, drop-drop, length-take-le}
 use Rattle.paths.specs.Copying.{overwrite}
 use Rattle.paths.proofs.CopyLaws.{length-front, take-over}
@@ -17,10 +17,6 @@ unfolding overwrite
 over-sets vs l i h = sets-eq vs l i h
 
 module _ (m : List ℕ) (at : ℕ) (s : List ℕ) (h : at + length s ≤ length m) where
-  pub length-overwrite : length (overwrite m at s) ≡ length m
-  unfolding overwrite
-  length-overwrite = simp (length-append, length-drop, length-take-le at m (omega arith)) (omega arith)
-
   -- what lies before it, from its start on, and behind it
   pub take-before : (k : ℕ) → k ≤ at → take k (overwrite m at s) ≡ take k m
   unfolding overwrite

@@ -8,7 +8,7 @@ use native.Mathlib.Decide.{decLt}
 use lib.ListN.{getD}
 use borrow.Author.Tests.{le-leb, lt-leb}
 use Rattle.table.specs.Entries.{Entry, compare}
-use Rattle.table.specs.Placing.{isAfter, searchFrom, search}
+use Rattle.table.specs.Placing.{isAfter, searchFrom}
 
 module _ (entries : List Entry) (new : Entry) where
   -- where the base moves in a turn

@@ -5,33 +5,24 @@ use mathlib.Core.List.{List, [], _∷_}
 use mathlib.Core.Bool.{Bool, true, false, cond}
 use native.Mathlib.Omega.{arith}
 use native.Mathlib.Decide.{decLt}
-use lib.ListN.{length, getD, take, drop}
+use lib.ListN.{length, getD}
 use lib.Dec.{leb}
 use lib.IntN.{ℤ, pos, negsuc}
 use mir.Syntax.{w8}
 use mir.Val.{ofZ}
 use borrow.Author.Tests.{le-leb, lt-leb, le-ltb, lt-ltb}
-use Rattle.table.specs.declared.Kind.{Kind}
 use Rattle.table.specs.declared.Place.the-variants.{Found, At}
 use Rattle.table.specs.Entries.{Entry, compare}
 use Rattle.table.specs.Placing.{isAfter, searchFrom, search, placeBy, place}
-use Rattle.table.specs.Tables.{maxEntries, maxPathBytes, pathBytes, isEntry}
-use Rattle.table.specs.Acts.{insert, insertedBy, inserted, adds, wouldAdd, hasRoom, overflows, applyAct}
-use Rattle.table.specs.Memory.{wordAt, lenAt, nextAt, kindFrom, entryAt, entriesAt, offsetAt, tableOf, areWithin, holds, put}
-use Rattle.table.specs.Inserting.{SearchEnds, Inserts}
+use Rattle.table.specs.Tables.{maxEntries, maxPathBytes, pathBytes}
+use Rattle.table.specs.Acts.{insertedBy, inserted, adds, wouldAdd, hasRoom, overflows, applyAct}
+use Rattle.table.specs.Memory.{wordAt, nextAt, entryAt, entriesAt, offsetAt, tableOf, areWithin, holds, put, doAct}
+use Rattle.table.specs.Changing.{SearchEnds, InsertsEntry}
 use Rattle.table.proofs.ComparisonLaws.{Sign, minus, none, plus, compare-sign}
 use Rattle.table.proofs.PlacingLaws.{search-done, search-turn, search-inside}
 use Rattle.table.proofs.Within.{held, rest-start, rest-take, rest-drop, rest-here, length-entries}
 use Rattle.table.proofs.Codec.{length-encodeAll, entries-size, offset-split, entry-nth}
-use Rattle.table.proofs.Puts.{count-of, long-of, valid-of, left-put}
-use Rattle.table.proofs.FoundLaws.{table-placed}
-
--- the entry at `at` with a new one, by the parts that were read
-pub compared : (m : List ℕ) (at : ℕ) (e : Entry) {k : Kind} {len : ℕ} → k ≡ kindFrom (getD m at 0) → len ≡ lenAt m at
-    → compare (record { kind = k; path = take (at + 3 + len - (at + 3)) (drop (at + 3) m) }) e ≡ compare (entryAt m at) e
-compared m at e {k} {len} p q =
-    let r : at + 3 + len - (at + 3) ≡ lenAt m at = omega arith in
-    rw (p, r)
+use Rattle.table.proofs.Puts.{count-of}
 
 -- ---- a comparison, as the number that stands for it: 0, 1, or 255 for −1
 
@@ -237,25 +228,15 @@ room-by m e {n} {end} {len} q h b l p =
 -- ---- the insert
 
 module _ (m : List ℕ) (e : Entry) where
-  pub inserts-found : {m′ : List ℕ} → place (tableOf m .entries) e ≡ Found → m′ ≡ put (insertedBy Found (tableOf m) e) m → Inserts m m′ e true
-  unfolding overflows wouldAdd adds applyAct inserted
+  pub inserts-found : {m′ : List ℕ} → place (tableOf m .entries) e ≡ Found → m′ ≡ put (insertedBy Found (tableOf m) e) m → InsertsEntry m m′ e true
+  unfolding overflows wouldAdd adds applyAct inserted doAct
   inserts-found p q = record { answer = rw p; bytes = rw p q }
 
-  pub inserts-full : {k : ℕ} → place (tableOf m .entries) e ≡ At k → hasRoom (tableOf m) e ≡ false → Inserts m m e false
+  pub inserts-full : {k : ℕ} → place (tableOf m .entries) e ≡ At k → hasRoom (tableOf m) e ≡ false → InsertsEntry m m e false
   unfolding overflows wouldAdd adds
   inserts-full p h = record { answer = rw (p, h); bytes = rw (p, h) }
 
   pub inserts-added : {k : ℕ} {m′ : List ℕ} → place (tableOf m .entries) e ≡ At k → hasRoom (tableOf m) e ≡ true
-      → m′ ≡ put (insertedBy (At k) (tableOf m) e) m → Inserts m m′ e true
-  unfolding overflows wouldAdd adds applyAct inserted
+      → m′ ≡ put (insertedBy (At k) (tableOf m) e) m → InsertsEntry m m′ e true
+  unfolding overflows wouldAdd adds applyAct inserted doAct
   inserts-added p h q = record { answer = rw (p, h); bytes = rw (p, h) q }
-
-  kept-or-put : (over : Bool) (m′ : List ℕ) → overflows (tableOf m) e ≡ over → holds m ≡ true → isEntry e ≡ true
-      → m′ ≡ cond over m (put (applyAct (tableOf m) (insert e)) m) → holds m′ ≡ true
-  unfolding applyAct
-  kept-or-put true m′ o h v q = rw q h
-  kept-or-put false m′ o h v q = left-put m m′ (inserted (tableOf m) e) (table-placed (tableOf m) e (valid-of m h) v o) (long-of m h) q .holding
-
-  -- memory still holds a table
-  pub inserts-held : (m′ : List ℕ) (done : Bool) → holds m ≡ true → isEntry e ≡ true → Inserts m m′ e done → holds m′ ≡ true
-  inserts-held m′ done h v I = kept-or-put (overflows (tableOf m) e) m′ refl h v (I .bytes)

@@ -2,12 +2,11 @@
 -- its limits holds that table. Callers cite these and open neither `encode` nor `holds`.
 use Prim.Native.Nat.{ℕ, _+_, _-_, _/_, _%_, _≤_, _<_}
 use mathlib.Core.Path.{_≡_, refl, sym, ap, _∙_}
-use mathlib.Core.List.{List, [], _∷_, _++_}
+use mathlib.Core.List.{List, [], _∷_}
 use mathlib.Core.Bool.{true, _&&_}
 use native.Mathlib.Omega.{arith}
 use native.Mathlib.Nat.{div-add-mod'}
 use lib.ListN.{length, getD, take, drop, length-append, length-drop, take-append-drop}
-use lib.Seq.{drop-append-add, drop-drop}
 use lib.Arith.{digits-div, digits-mod}
 use lib.Dec.{leb, ltb}
 use borrow.Author.Tests.{leb-true, ltb-true, le-leb}
@@ -107,22 +106,6 @@ left-put m m′ t e long q = record {
   same = rw q (length-put t m (omega (arith, encode-fits t e)));
 }
 
--- memory holds a table if `put` of one within its limits leaves it as it is
-pub holds-when : (m : List ℕ) (t : Table) → isTable t ≡ true → tableBytes ≤ length m → put t m ≡ m → holds m ≡ true
-holds-when m t e long q = rw q at (holds-put t m e long)
-
--- a table that is as long hides the one before
-pub put-put : (t u : Table) (m : List ℕ) → length (encode t) ≤ length (encode u) → put u (put t m) ≡ put u m
-unfolding put
-put-put t u m h =
-    let k = length (encode u) - length (encode t) in
-    let e : length (encode u) ≡ length (encode t) + k = omega arith in
-    ap (λ (l : List ℕ). encode u ++ l)
-    (ap (λ (j : ℕ). drop j (put t m)) e
-    ∙ drop-append-add (encode t) (drop (length (encode t)) m) k
-    ∙ drop-drop k (length (encode t)) m
-    ∙ ap (λ (j : ℕ). drop j m) (sym e))
-
 -- ---- an insert
 
 -- there is room for an entry
@@ -173,22 +156,7 @@ unfolding adds
 table-inserted Found t e v w p h = table-found t e v (p refl)
 table-inserted (At k) t e v w p h = table-added k t e v w (h refl)
 
--- how many entries and path bytes there are with one entry more
+-- how many entries there are with one entry more
 pub length-inserted : (k : ℕ) (t : Table) (e : Entry) → length (insertedBy (At k) t e .entries) ≡ length (t .entries) + 1
 unfolding insertedBy placedAt
 length-inserted k t e = length-more k (t .entries) e
-
-pub path-inserted : (k : ℕ) (t : Table) (e : Entry) → pathBytes (insertedBy (At k) t e .entries) ≡ pathBytes (t .entries) + length (e .path)
-unfolding insertedBy placedAt
-path-inserted k t e = path-more k (t .entries) e
-
--- an insert makes no table shorter
-pub length-after : (where-to : Place) (t : Table) (e : Entry) → length (encode t) ≤ length (encode (insertedBy where-to t e))
-length-after Found t e = unfold insertedBy placedAt encode in omega arith
-length-after (At k) t e =
-    omega (arith, length-encode t, length-encode (insertedBy (At k) t e), length-inserted k t e, path-inserted k t e)
-
--- an insert into memory that a table was put into
-pub then-inserted : (m m₁ m₂ : List ℕ) (t : Table) (where-to : Place) (e : Entry) → m₁ ≡ put t m
-    → m₂ ≡ put (insertedBy where-to (tableOf m₁) e) m₁ → m₂ ≡ put (insertedBy where-to t e) m
-then-inserted m m₁ m₂ t w e p q = q ∙ rw (p, tableOf-put t m) (put-put t (insertedBy w t e) m (length-after w t e))

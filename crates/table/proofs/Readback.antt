@@ -10,7 +10,7 @@ use lib.Seq.{getD-append-add, drop-append-add, take-append-seam}
 use borrow.Author.Tests.{le-leb}
 use Rattle.table.specs.Entries.{Entry, kindNumber}
 use Rattle.table.specs.Memory.{lenAt, nextAt, kindFrom, entryAt, entriesAt, areWithin, encodeEntry, encodeAll}
-use Rattle.table.proofs.Within.{kind-number, number-small}
+use Rattle.table.proofs.Within.{kind-number, number-small, kind-bound}
 use Rattle.table.proofs.Codec.{length-encodeEntry}
 
 -- at `at`, where memory is p, then the entry e, then r
@@ -74,5 +74,5 @@ entries-within m p (e ∷ es) r at q a =
     let q₁ = one-first m p e es r q in
     let R = encodeAll es ++ r in
     let kind : getD m at 0 ≤ 3 = rw (read-kind m p e R at q₁ a) (number-small (e .kind)) in
-    rw (le-leb _ _ kind, le-leb _ _ (read-inside m p e R at q₁ a))
+    rw (kind-bound (getD m at 0), le-leb _ _ kind, le-leb _ _ (read-inside m p e R at q₁ a))
     (entries-within m (p ++ encodeEntry e) es r (nextAt m at) (one-passed m p e es r q) (read-next m p e R at q₁ a))

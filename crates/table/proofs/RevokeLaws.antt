@@ -1,18 +1,14 @@
--- Revoking and setting the switches. The loop that drops entries has written those that it kept one after the other from offset 4 on, and
--- those that are still to come stand where they were. Callers cite the laws at the end: what an act leaves is within the limits.
-use Prim.Native.Nat.{ℕ, zero, suc, _+_, _-_, _/_, _%_, _≤_, _<_}
+-- Revoking and setting the switches in memory. The loop that drops entries has written those that it kept one after the other from offset 4
+-- on, and those that are still to come stand where they were.
+use Prim.Native.Nat.{ℕ, zero, suc, _+_, _-_, _≤_, _<_}
 use mathlib.Core.Path.{_≡_, refl, sym, ap, _∙_}
 use mathlib.Core.List.{List, [], _∷_, _++_, append-nil}
-use mathlib.Core.Bool.{Bool, true, false, _&&_, _||_, cond, false≢true}
+use mathlib.Core.Bool.{Bool, true, false, _&&_, _||_}
 use native.Mathlib.Omega.{arith}
 use native.Mathlib.Nat.{add-zero}
 use lib.ListN.{length, getD, set, take, drop, length-append}
-use lib.Seq.{paste-zero, take-at, append-snoc, getD-drop, drop-append-add, drop-drop}
-use lib.Dec.{eqb}
-use borrow.Author.Tests.{eq-eqb, ne-eqb}
-use Rattle.table.specs.declared.Kind.{Kind}
-use Rattle.table.specs.declared.Kind.the-variants.{G, D, P, I}
-use Rattle.table.specs.Entries.{Entry, kindNumber, isGranted}
+use lib.Seq.{paste-zero, take-at, append-snoc, getD-drop}
+use Rattle.table.specs.Entries.{Entry, kindOf, isGranted}
 use Rattle.table.specs.Tables.{
   Table,
   has,
@@ -28,11 +24,13 @@ use Rattle.table.specs.Tables.{
   marksOf,
   isTable,
 }
-use Rattle.table.specs.Acts.{keptUnless, without, revokedBy, droppedBy, dropping, applyAct, setSwitches, revoke, revokeAll}
+use Rattle.table.specs.Acts.{keptUnless, without, revokedBy, applyAct, setSwitches, revoke, revokeAll}
+use Rattle.table.specs.Changing.{droppedBy, dropping}
 use Rattle.table.specs.Memory.{
   wordAt,
   lenAt,
   nextAt,
+  kindIn,
   kindFrom,
   entryAt,
   entriesAt,
@@ -44,24 +42,25 @@ use Rattle.table.specs.Memory.{
   encodeAll,
   encode,
   put,
+  doAct,
 }
-use Rattle.table.proofs.TableLaws.{valid-parts, parts-valid}
-use Rattle.table.proofs.Within.{held, Here, Rest, rest-start, rest-here, rest-next, entriesAt-step, entriesAt-none, length-path}
-use Rattle.table.proofs.Codec.{Bytes, length-encodeEntry, length-encode, encodeAll-append, head-of, entry-law, front}
+use Rattle.table.specs.Reading.{Rest}
+use Rattle.table.proofs.Within.{held, Here, rest-start, rest-here, rest-next, entriesAt-step, entriesAt-none, length-path}
+use Rattle.table.proofs.Codec.{Bytes, length-encodeEntry, encodeAll-append, head-of, entry-law, front}
 use Rattle.table.proofs.Overwrites.{drop-behind, over-above, headed}
-use Rattle.table.proofs.Puts.{Left, left-put, long-of, valid-of, put-self, tableOf-put, put-put}
+use Rattle.table.proofs.Puts.{put-self}
 use Rattle.paths.specs.Copying.{overwrite}
 use Rattle.paths.specs.Relations.{isPrefix}
-use Rattle.paths.proofs.ComponentLaws.{and-left, and-right}
 
 -- ---- what a revoke drops
 
 other-kind : (n : ℕ) → (n ≡ 0 → ⊥) → isGranted (kindFrom n) ≡ false
-unfolding kindFrom
+unfolding kindIn kindOf
 other-kind zero h = absurd (h refl)
 other-kind (suc zero) h = refl
 other-kind (suc (suc zero)) h = refl
-other-kind (suc (suc (suc n))) h = refl
+other-kind (suc (suc (suc zero))) h = refl
+other-kind (suc (suc (suc (suc n)))) h = refl
 
 module _ (all : Bool) (q m : List ℕ) (at : ℕ) where
   -- an entry of another kind stays
@@ -71,14 +70,13 @@ module _ (all : Bool) (q m : List ℕ) (at : ℕ) where
 
   -- a grant goes where all go
   pub goes : getD m at 0 ≡ 0 → all ≡ true → true ≡ droppedBy all q (entryAt m at)
-  unfolding droppedBy kindFrom
+  unfolding droppedBy kindIn kindOf
   goes e a = rw (e, a)
 
   -- and else where its path is a prefix
-  pub goes-by-path : (n : ℕ) (r : Bool) → getD m at 0 ≡ 0 → all ≡ false → r ≡ isPrefix (take n (drop (at + 3) m)) q → n ≡ lenAt m at
-      → r ≡ droppedBy all q (entryAt m at)
-  unfolding droppedBy kindFrom
-  goes-by-path n r e a i l = rw (e, a, ← l) i
+  pub goes-by-path : (r : Bool) → getD m at 0 ≡ 0 → all ≡ false → r ≡ isPrefix (entryAt m at .path) q → r ≡ droppedBy all q (entryAt m at)
+  unfolding droppedBy kindIn kindOf
+  goes-by-path r e a i = rw (e, a) i
 
 -- ---- one step
 
@@ -228,17 +226,9 @@ kept-end dropped m₀ m l left kept from to b hold none K q =
 
 -- ---- the switches
 
-pub bit-cleared : (n bit : ℕ) → n / bit % 2 ≡ 1 → n - bit ≡ clearBit n bit
-unfolding clearBit has
-bit-cleared n bit e = rw (eq-eqb _ _ e)
-
-pub bit-clear : (n bit : ℕ) → (n / bit % 2 ≡ 1 → ⊥) → n ≡ clearBit n bit
-unfolding clearBit has
-bit-clear n bit e = rw (ne-eqb _ _ e)
-
 -- the switches alone
-pub switch-law : (m l : List ℕ) (v : ℕ) → Bytes m → holds m ≡ true → l ≡ set m 2 v → l ≡ put (applyAct (tableOf m) (setSwitches v)) m
-unfolding put encode applyAct tableOf
+pub switch-law : (m l : List ℕ) (v : ℕ) → Bytes m → holds m ≡ true → l ≡ set m 2 v → l ≡ doAct m (setSwitches v)
+unfolding doAct put encode applyAct tableOf
 switch-law m l v b h q = q ∙ ap (λ (l : List ℕ). set l 2 v) (sym (put-self m b h))
 
 -- ---- every grant
@@ -256,168 +246,17 @@ all-granted : (q : List ℕ) (es : List Entry) → without (droppedBy true q) es
 unfolding droppedBy
 all-granted q es = without-same _ _ (λ e. and-all (isGranted (e .kind)) (isPrefix (e .path) q)) es
 
-pub revoke-law : (m l q : List ℕ) → l ≡ put (dropping (droppedBy false q) (tableOf m)) m → l ≡ put (applyAct (tableOf m) (revoke q)) m
-unfolding applyAct droppedBy revokedBy
+pub revoke-law : (m l q : List ℕ) → l ≡ put (dropping (droppedBy false q) (tableOf m)) m → l ≡ doAct m (revoke q)
+unfolding doAct applyAct droppedBy revokedBy
 revoke-law m l q e = e
 
 -- every grant is dropped, and then the switch is cleared
 pub revoke-all-law : (m l l′ q : List ℕ) (v : ℕ) → l ≡ put (dropping (droppedBy true q) (tableOf m)) m
-    → v ≡ clearBit (getD l 2 0) granted → l′ ≡ set l 2 v → l′ ≡ put (applyAct (tableOf m) revokeAll) m
-unfolding put encode applyAct
+    → v ≡ clearBit (getD l 2 0) granted → l′ ≡ set l 2 v → l′ ≡ doAct m revokeAll
+unfolding doAct put encode applyAct
 revoke-all-law m l l′ q v e c s =
     let t = tableOf m in
     let d : l ≡ put (dropping (λ x. isGranted (x .kind)) t) m =
     e ∙ ap (λ (es : List Entry). put (record { entries = es; switches = t .switches; marks = t .marks }) m) (all-granted q (t .entries))
     in
     s ∙ rw (c, d)
-
--- ---- what is left is within the limits
-
--- with the first entry, where it is kept
-length-kept : (b : Bool) (e : Entry) (es : List Entry) → length (keptUnless b e es) ≤ suc (length es)
-unfolding keptUnless
-length-kept true e es = omega arith
-length-kept false e es = omega arith
-
-path-kept : (b : Bool) (e : Entry) (es : List Entry) → pathBytes (keptUnless b e es) ≤ length (e .path) + pathBytes es
-unfolding keptUnless pathBytes
-path-kept true e es = omega arith
-path-kept false e es = omega arith
-
-every-kept : (f : Entry → Bool) (b : Bool) (e : Entry) (es : List Entry) → f e ≡ true → every f es ≡ true
-    → every f (keptUnless b e es) ≡ true
-unfolding keptUnless every
-every-kept f true e es p q = q
-every-kept f false e es p q = rw p q
-
-any-kept : (f : Entry → Bool) (b : Bool) (e : Entry) (es : List Entry) → (b ≡ true → f e ≡ false)
-    → any f (keptUnless b e es) ≡ f e || any f es
-unfolding keptUnless any
-any-kept f true e es h = rw (h refl)
-any-kept f false e es h = refl
-
-module _ (dropped : Entry → Bool) where
-  pub length-without : (es : List Entry) → length (without dropped es) ≤ length es
-  unfolding without
-  length-without [] = omega arith
-  length-without (e ∷ es) = omega (arith, length-kept (dropped e) e (without dropped es), length-without es)
-
-  pub path-without : (es : List Entry) → pathBytes (without dropped es) ≤ pathBytes es
-  unfolding without pathBytes
-  path-without [] = omega arith
-  path-without (e ∷ es) = omega (arith, path-kept (dropped e) e (without dropped es), path-without es)
-
-  pub every-without : (f : Entry → Bool) (es : List Entry) → every f es ≡ true → every f (without dropped es) ≡ true
-  unfolding without every
-  every-without f [] p = refl
-  every-without f (e ∷ es) p =
-      every-kept f (dropped e) e (without dropped es) (and-left (f e) _ p) (every-without f es (and-right (f e) _ p))
-
-  -- where f holds of no entry that is dropped
-  pub any-without : (f : Entry → Bool) → ((e : Entry) → dropped e ≡ true → f e ≡ false) → (es : List Entry)
-      → any f (without dropped es) ≡ any f es
-  unfolding without any
-  any-without f h [] = refl
-  any-without f h (e ∷ es) = any-kept f (dropped e) e (without dropped es) (h e) ∙ ap (_||_ (f e)) (any-without f h es)
-
-  -- no table gets longer
-  pub length-dropping : (t : Table) → length (encode (dropping dropped t)) ≤ length (encode t)
-  length-dropping t =
-      omega (
-        arith,
-        length-encode t,
-        length-encode (dropping dropped t),
-        length-without (t .entries),
-        path-without (t .entries),
-      )
-
-grant-unlike : (k j : Kind) → isGranted k ≡ true → isGranted j ≡ false → eqb (kindNumber k) (kindNumber j) ≡ false
-grant-unlike G G g n = n
-grant-unlike G D g n = refl
-grant-unlike G P g n = refl
-grant-unlike G I g n = refl
-grant-unlike D j g n = absurd (false≢true g)
-grant-unlike P j g n = absurd (false≢true g)
-grant-unlike I j g n = absurd (false≢true g)
-
--- where only grants are dropped, the other kinds that are present stay so, and with them the marks
-module _ (dropped : Entry → Bool) (grants : (e : Entry) → dropped e ≡ true → isGranted (e .kind) ≡ true) where
-  pub present-without : (k : Kind) → isGranted k ≡ false → (es : List Entry) → present k (without dropped es) ≡ present k es
-  unfolding present
-  present-without k n es = any-without dropped _ (λ e d. grant-unlike (e .kind) k (grants e d) n) es
-
-  pub marks-without : (es : List Entry) → marksOf (without dropped es) ≡ marksOf es
-  unfolding marksOf
-  marks-without es = rw (present-without D refl es, present-without P refl es, present-without I refl es)
-
-  pub table-dropping : (t : Table) → isTable t ≡ true → isTable (dropping dropped t) ≡ true
-  table-dropping t v =
-      let old = valid-parts t v in
-      parts-valid (dropping dropped t) (record {
-        few = omega (arith, length-without dropped (t .entries), old .few);
-        bytes = omega (arith, path-without dropped (t .entries), old .bytes);
-        each = every-without dropped isEntry (t .entries) (old .each);
-        switches = old .switches;
-        marks = old .marks ∙ sym (marks-without (t .entries));
-      })
-
-pub clear-less : (n bit : ℕ) → clearBit n bit ≤ n
-unfolding clearBit
-clear-less n bit = go (has n bit)
-  where
-    go : (b : Bool) → cond b (n - bit) n ≤ n
-    go true = omega arith
-    go false = omega arith
-
--- each act keeps a table within its limits
-pub table-switched : (t : Table) (v : ℕ) → v ≤ maxSwitches → isTable t ≡ true → isTable (applyAct t (setSwitches v)) ≡ true
-unfolding applyAct
-table-switched t v h e =
-    let old = valid-parts t e in
-    parts-valid _ (record { few = old .few; bytes = old .bytes; each = old .each; switches = h; marks = old .marks })
-
-pub table-revoked : (t : Table) (q : List ℕ) → isTable t ≡ true → isTable (applyAct t (revoke q)) ≡ true
-unfolding applyAct revokedBy
-table-revoked t q v = table-dropping (revokedBy q) (λ e d. and-left (isGranted (e .kind)) _ d) t v
-
-pub table-revoked-all : (t : Table) → isTable t ≡ true → isTable (applyAct t revokeAll) ≡ true
-unfolding applyAct
-table-revoked-all t v =
-    let f : Entry → Bool = λ e. isGranted (e .kind) in
-    table-switched (dropping f t) _ (omega (arith, clear-less (t .switches) granted, valid-parts t v .switches))
-    (table-dropping f (λ e d. d) t v)
-
--- ---- what memory has that an act left
-
-module _ (m m′ : List ℕ) (h : holds m ≡ true) where
-  pub left-revoked : (q : List ℕ) → m′ ≡ put (applyAct (tableOf m) (revoke q)) m → Left m m′ (applyAct (tableOf m) (revoke q))
-  left-revoked q e = left-put m m′ _ (table-revoked (tableOf m) q (valid-of m h)) (long-of m h) e
-
-  pub left-revoked-all : m′ ≡ put (applyAct (tableOf m) revokeAll) m → Left m m′ (applyAct (tableOf m) revokeAll)
-  left-revoked-all e = left-put m m′ _ (table-revoked-all (tableOf m) (valid-of m h)) (long-of m h) e
-
-  pub left-switched : (v : ℕ) → v ≤ maxSwitches → m′ ≡ put (applyAct (tableOf m) (setSwitches v)) m
-      → Left m m′ (applyAct (tableOf m) (setSwitches v))
-  left-switched v s e = left-put m m′ _ (table-switched (tableOf m) v s (valid-of m h)) (long-of m h) e
-
--- switches change no length
-pub switched-length : (t : Table) (v : ℕ) → length (encode (applyAct t (setSwitches v))) ≡ length (encode t)
-unfolding applyAct encode
-switched-length t v = refl
-
--- the switches, set in memory that a table was put into
-pub then-switched : (m m₁ m₂ : List ℕ) (t : Table) (v : ℕ) → m₁ ≡ put t m → m₂ ≡ put (applyAct (tableOf m₁) (setSwitches v)) m₁
-    → m₂ ≡ put (applyAct t (setSwitches v)) m
-unfolding applyAct encode
-then-switched m m₁ m₂ t v p q = q ∙ rw (p, tableOf-put t m) (put-put t (applyAct t (setSwitches v)) m (omega arith))
-
--- what lies behind a table that is put is as it was
-pub drop-put : (t : Table) (m : List ℕ) (k : ℕ) → length (encode t) ≤ k → drop k (put t m) ≡ drop k m
-unfolding put
-drop-put t m k h =
-    let j = k - length (encode t) in
-    let e : k ≡ length (encode t) + j = omega arith in
-    ap (λ (i : ℕ). drop i (put t m)) e
-    ∙ drop-append-add (encode t) (drop (length (encode t)) m) j
-    ∙ drop-drop j (length (encode t)) m
-    ∙ ap (λ (i : ℕ). drop i m) (sym e)

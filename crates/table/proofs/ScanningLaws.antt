@@ -1,24 +1,26 @@
 -- The memory test gives what `holds` says.
-use Prim.Native.Nat.{ℕ, zero, suc, _+_, _-_, _*_, _/_, _%_, _≤_, _<_}
+use Prim.Native.Nat.{ℕ, zero, suc, _+_, _-_, _*_, _≤_, _<_}
 use mathlib.Core.Path.{_≡_, refl, sym, ap, _∙_}
 use mathlib.Core.List.{List, [], _∷_}
 use mathlib.Core.Bool.{Bool, true, false, _&&_, _||_, false≢true}
 use native.Mathlib.Omega.{arith}
-use native.Mathlib.Decide.{ℕ-discrete}
 use native.Mathlib.Nat.{not-suc-le-zero}
-use lib.ListN.{length, getD, take, drop}
+use lib.ListN.{length, getD}
 use lib.Dec.{leb, eqb}
 use borrow.Author.Tests.{le-leb, leb-true, eqb-true, eq-eqb}
 use Rattle.paths.specs.Resolving.{maxPath, isResolved}
 use Rattle.paths.proofs.ComponentLaws.{and-left, and-right, and-both}
 use Rattle.table.specs.declared.Kind.{Kind}
-use Rattle.table.specs.declared.Kind.the-variants.{G, D, P, I}
+use Rattle.table.specs.declared.Kind.the-variants.{D, P, I}
 use Rattle.table.specs.Entries.{Entry, kindNumber}
-use Rattle.table.specs.Tables.{has, setBit, marked, maxEntries, maxPathBytes, maxSwitches, pathBytes, isEntry, every, any, present, marksOf}
+use Rattle.table.specs.Tables.{marked, maxEntries, maxPathBytes, maxSwitches, pathBytes, isEntry, every, any, present, marksOf}
 use Rattle.table.specs.Memory.{tableBytes, wordAt, lenAt, nextAt, entryAt, entriesAt, tableOf, areWithin, holds}
 use Rattle.table.specs.Scanning.{entryFits, scanned}
-use Rattle.table.proofs.TableLaws.{marksBy, mark-set, parts-valid, bit-kept, bit-added}
-use Rattle.table.proofs.Within.{held, length-entries, length-path, pred-suc}
+use Rattle.table.proofs.BitLaws.{marked-small}
+use Rattle.table.proofs.TableLaws.{marksBy, mark-set, parts-valid}
+use Rattle.paths.specs.Giving.{isPath}
+use Rattle.table.specs.Entries.{kindOf, isKind}
+use Rattle.table.proofs.Within.{held, length-entries, length-path, pred-suc, kind-bound}
 
 -- ---- marks met one after the other
 
@@ -78,11 +80,11 @@ unfolding entryFits
 parts-fit m room at f = rw (le-leb _ _ (f .kind), le-leb _ _ (f .short), le-leb _ _ (f .roomy)) (f .resolved)
 
 fits-entry : (m : List ℕ) (room at : ℕ) → nextAt m at ≤ length m → Fits m room at → isEntry (entryAt m at) ≡ true
-unfolding isEntry
+unfolding isEntry isPath
 fits-entry m room at inside f = rw (length-path m at inside, le-leb _ _ (f .short)) (f .resolved)
 
 entry-fits : (m : List ℕ) (room at : ℕ) → nextAt m at ≤ length m → getD m at 0 ≤ 3 → lenAt m at ≤ room → isEntry (entryAt m at) ≡ true → Fits m room at
-unfolding isEntry
+unfolding isEntry isPath
 entry-fits m room at inside kind roomy e =
     let short : length (entryAt m at .path) ≤ 1024 = leb-true _ _ (and-left (leb (length (entryAt m at .path)) 1024) _ e) in
     record {
@@ -109,7 +111,7 @@ scan-parts m (suc n) room seen at long e =
     let inside : nextAt m at ≤ length m = omega (arith, f .roomy) in
     let s = scan-parts m n (room - lenAt m at) (marked (entryAt m at .kind) seen) (nextAt m at) (omega (arith, f .roomy)) (and-right (entryFits m room at) _ e) in
     record {
-      within = rw (le-leb _ _ (f .kind), le-leb _ _ inside) (s .within);
+      within = rw (kind-bound (getD m at 0), le-leb _ _ (f .kind), le-leb _ _ inside) (s .within);
       each = and-both (fits-entry m room at inside f) (s .each);
       roomy = omega (arith, length-path m at inside, s .roomy, f .roomy);
       marks = s .marks;
@@ -119,13 +121,13 @@ pub parts-scan : (m : List ℕ) (n room seen at : ℕ) → Scan m n room seen at
 unfolding scanned areWithin entriesAt every pathBytes marksAfter
 parts-scan m zero room seen at s = eq-eqb _ _ (s .marks)
 parts-scan m (suc n) room seen at s =
-    let k = leb (getD m at 0) 3 in
+    let k = isKind (kindOf (getD m at 0)) in
     let w = leb (nextAt m at) (length m) in
     let inside = leb-true _ _ (and-right k _ (and-left (k && w) _ (s .within))) in
     let size = length-path m at inside in
     let each = s .each in
     and-both
-    (parts-fit m room at (entry-fits m room at inside (leb-true _ _ (and-left k _ (and-left (k && w) _ (s .within)))) (omega (arith, s .roomy)) (and-left (isEntry (entryAt m at)) _ each)))
+    (parts-fit m room at (entry-fits m room at inside (leb-true _ _ (sym (kind-bound (getD m at 0)) ∙ and-left k _ (and-left (k && w) _ (s .within)))) (omega (arith, s .roomy)) (and-left (isEntry (entryAt m at)) _ each)))
     (parts-scan m n (room - lenAt m at) (marked (entryAt m at .kind) seen) (nextAt m at)
     (record {
       within = and-right (k && w) _ (s .within);
@@ -194,28 +196,11 @@ module _ (m : List ℕ) (room at : ℕ) where
   unfit-room h = false-by (λ e. omega (arith, fits-parts m room at e .roomy))
 
   -- all but the path is in order
-  pub fit-path : (n : ℕ) → n ≡ lenAt m at → getD m at 0 ≤ 3 → n ≤ maxPath → n ≤ room
-      → isResolved (take n (drop (at + 3) m)) ≡ entryFits m room at
+  pub fit-path : getD m at 0 ≤ 3 → lenAt m at ≤ maxPath → lenAt m at ≤ room → isResolved (entryAt m at .path) ≡ entryFits m room at
   unfolding entryFits
-  fit-path n e kind short roomy =
-      rw (le-leb _ _ kind, le-leb (lenAt m at) maxPath (omega arith), le-leb (lenAt m at) room (omega arith))
-      (ap (λ (k : ℕ). isResolved (take k (drop (at + 3) m))) e)
+  fit-path kind short roomy = rw (le-leb _ _ kind, le-leb _ _ short, le-leb _ _ roomy)
 
 -- ---- one turn of the test
-
-setBit-small : (n bit most : ℕ) → n ≤ most → ((n / bit % 2 ≡ 1 → ⊥) → n + bit ≤ most) → setBit n bit ≤ most
-setBit-small n bit most h f = go (ℕ-discrete (n / bit % 2) 1)
-  where
-    go : Dec (n / bit % 2 ≡ 1) → setBit n bit ≤ most
-    go (yes e) = rw (bit-kept n bit e) h
-    go (no e) = rw (bit-added n bit e) (f e)
-
-pub marked-small : (k : Kind) (n : ℕ) → n ≤ 7 → marked k n ≤ 7
-unfolding marked
-marked-small G n h = h
-marked-small D n h = setBit-small n 1 7 h (λ e. omega arith)
-marked-small P n h = setBit-small n 2 7 h (λ e. omega arith)
-marked-small I n h = setBit-small n 4 7 h (λ e. omega arith)
 
 pub mark-of : {k j : Kind} {r : ℕ} (n : ℕ) → r ≡ marked k n → k ≡ j → r ≡ marked j n
 mark-of {k} {j} {r} n e f = e ∙ ap (λ (x : Kind). marked x n) f

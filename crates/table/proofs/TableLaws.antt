@@ -1,12 +1,12 @@
 -- Laws of a table within its limits: what that says of it, and what its path bytes and marks are with one entry more.
-use Prim.Native.Nat.{ℕ, zero, suc, _+_, _/_, _%_, _≤_}
+use Prim.Native.Nat.{ℕ, zero, suc, _+_, _≤_}
 use mathlib.Core.Path.{_≡_, refl, sym, ap, _∙_}
 use mathlib.Core.List.{List, [], _∷_, _++_}
 use mathlib.Core.Bool.{Bool, true, false, _&&_, _||_, cond}
 use native.Mathlib.Omega.{arith}
 use lib.ListN.{length, take, drop, take-append-drop, length-append}
 use lib.Dec.{leb, eqb}
-use borrow.Author.Tests.{leb-true, eqb-true, le-leb, eq-eqb, ne-eqb}
+use borrow.Author.Tests.{leb-true, eqb-true, le-leb, eq-eqb}
 use Rattle.table.specs.declared.Kind.{Kind}
 use Rattle.table.specs.declared.Kind.the-variants.{G, D, P, I}
 use Rattle.table.specs.Entries.{Entry, kindNumber}
@@ -113,14 +113,6 @@ module _ (k : ℕ) (es : List Entry) (e : Entry) where
   every-more f p q = every-append f (take k es) (e ∷ drop k es) (every-take f k es p) (rw q (every-drop f k es p))
 
 -- ---- marks
-
-pub bit-kept : (n bit : ℕ) → n / bit % 2 ≡ 1 → setBit n bit ≡ n
-unfolding setBit has
-bit-kept n bit e = rw (eq-eqb _ _ e)
-
-pub bit-added : (n bit : ℕ) → (n / bit % 2 ≡ 1 → ⊥) → setBit n bit ≡ n + bit
-unfolding setBit has
-bit-added n bit e = rw (ne-eqb _ _ e)
 
 -- the marks by whether D, P and I are present
 abbrev pub marksBy : Bool → Bool → Bool → ℕ

@@ -1,23 +1,25 @@
 -- What memory that holds a table has, and what a walk over its entries goes by.
 use Prim.Native.Nat.{ℕ, zero, suc, _+_, _-_, _≤_, _<_}
-use mathlib.Core.Path.{_≡_, refl, sym, ap, subst}
+use mathlib.Core.Path.{_≡_, refl, sym, ap, _∙_, subst}
 use mathlib.Core.List.{List, [], _∷_}
 use mathlib.Core.Bool.{true, _&&_}
 use native.Mathlib.Omega.{arith}
 use native.Mathlib.Nat.{not-suc-le-zero, le-of-suc-le-suc, suc-sub-suc, sub-zero}
-use lib.ListN.{length, getD, drop, length-drop}
+use lib.ListN.{length, getD, take, drop, length-drop}
 use lib.Seq.{length-take-le}
 use lib.Dec.{leb}
-use borrow.Author.Tests.{leb-true, le-leb}
+use borrow.Author.Tests.{leb-true, le-leb, lt-leb}
 use Rattle.table.specs.declared.Kind.{Kind}
 use Rattle.table.specs.declared.Kind.the-variants.{G, D, P, I}
-use Rattle.table.specs.Entries.{kindNumber}
+use Rattle.table.specs.declared.KindRead.the-variants as kind-read
+use Rattle.table.specs.Entries.{kindNumber, kindOf, isKind}
 use Rattle.table.specs.Tables.{maxEntries, maxPathBytes, maxSwitches, pathBytes, isEntry, every, marksOf}
 use Rattle.table.specs.Memory.{
   tableBytes,
   wordAt,
   lenAt,
   nextAt,
+  kindIn,
   kindFrom,
   entryAt,
   entriesAt,
@@ -27,20 +29,22 @@ use Rattle.table.specs.Memory.{
   holds,
 }
 use Rattle.table.proofs.TableLaws.{valid-parts, marks-small}
+use Rattle.table.specs.Reading.{Rest}
 use Rattle.paths.specs.Resolving.{maxPath, isResolved}
+use Rattle.paths.specs.Giving.{isPath}
 use Rattle.paths.proofs.ComponentLaws.{and-left, and-right}
 
 -- ---- kinds
 
 pub kind-number : (k : Kind) → kindFrom (kindNumber k) ≡ k
-unfolding kindFrom
+unfolding kindIn kindOf
 kind-number G = refl
 kind-number D = refl
 kind-number P = refl
 kind-number I = refl
 
 pub number-kind : (n : ℕ) → n ≤ 3 → kindNumber (kindFrom n) ≡ n
-unfolding kindFrom
+unfolding kindIn kindOf
 number-kind zero h = refl
 number-kind (suc zero) h = refl
 number-kind (suc (suc zero)) h = refl
@@ -53,12 +57,30 @@ number-small D = omega arith
 number-small P = omega arith
 number-small I = omega arith
 
+-- the numbers that name a kind
+pub kind-bound : (n : ℕ) → isKind (kindOf n) ≡ leb n 3
+unfolding isKind kindOf
+kind-bound zero = refl
+kind-bound (suc zero) = refl
+kind-bound (suc (suc zero)) = refl
+kind-bound (suc (suc (suc zero))) = refl
+kind-bound (suc (suc (suc (suc n)))) = let h : 3 < suc (suc (suc (suc n))) = omega arith in sym (lt-leb _ _ h)
+
+pub kind-unknown : (n : ℕ) → 3 < n → kindOf n ≡ kind-read.Unknown
+unfolding kindOf
+kind-unknown zero h = absurd (omega arith)
+kind-unknown (suc zero) h = absurd (omega arith)
+kind-unknown (suc (suc zero)) h = absurd (omega arith)
+kind-unknown (suc (suc (suc zero))) h = absurd (omega arith)
+kind-unknown (suc (suc (suc (suc n)))) h = refl
+
 pub kind-above : (n : ℕ) → 3 ≤ n → kindFrom n ≡ I
-unfolding kindFrom
+unfolding kindIn kindOf
 kind-above zero h = absurd (omega arith)
 kind-above (suc zero) h = absurd (omega arith)
 kind-above (suc (suc zero)) h = absurd (omega arith)
-kind-above (suc (suc (suc n))) h = refl
+kind-above (suc (suc (suc zero))) h = refl
+kind-above (suc (suc (suc (suc n)))) h = refl
 
 -- ---- one step, where a loop counts down, and none left, where it ends
 
@@ -91,16 +113,16 @@ length-entries m (suc n) at = ap suc (length-entries m n (nextAt m at))
 
 -- ---- entries that lie within the memory
 
-first-within : (m : List ℕ) (n at : ℕ) → areWithin m (suc n) at ≡ true → leb (getD m at 0) 3 && leb (nextAt m at) (length m) ≡ true
+first-within : (m : List ℕ) (n at : ℕ) → areWithin m (suc n) at ≡ true → isKind (kindOf (getD m at 0)) && leb (nextAt m at) (length m) ≡ true
 unfolding areWithin
-first-within m n at e = and-left (leb (getD m at 0) 3 && leb (nextAt m at) (length m)) _ e
+first-within m n at e = and-left (isKind (kindOf (getD m at 0)) && leb (nextAt m at) (length m)) _ e
 
 first-inside : (m : List ℕ) (n at : ℕ) → areWithin m (suc n) at ≡ true → nextAt m at ≤ length m
-first-inside m n at e = leb-true _ _ (and-right (leb (getD m at 0) 3) _ (first-within m n at e))
+first-inside m n at e = leb-true _ _ (and-right (isKind (kindOf (getD m at 0))) _ (first-within m n at e))
 
 next-within : (m : List ℕ) (n at : ℕ) → areWithin m (suc n) at ≡ true → areWithin m n (nextAt m at) ≡ true
 unfolding areWithin
-next-within m n at e = and-right (leb (getD m at 0) 3 && leb (nextAt m at) (length m)) _ e
+next-within m n at e = and-right (isKind (kindOf (getD m at 0)) && leb (nextAt m at) (length m)) _ e
 
 -- where a loop counts down
 module _ (m : List ℕ) (n : ℕ) (h : 0 < n) (at : ℕ) (e : areWithin m n at ≡ true) where
@@ -146,11 +168,6 @@ marks-of m e = rw (held m e .marks) (marks-small (entriesAt m (wordAt m 0) 4))
 
 -- ---- a walk over the entries
 
--- n entries from `at` on lie within the memory and within the limits
-pub record Rest (m : List ℕ) (n at : ℕ) : Type 0 where
-  pub within : areWithin m n at ≡ true
-  pub each : every isEntry (entriesAt m n at) ≡ true
-
 pub rest-start : (m : List ℕ) → holds m ≡ true → Rest m (wordAt m 0) 4
 rest-start m e =
     let h = held m e in
@@ -168,16 +185,22 @@ pub record Here (m : List ℕ) (at : ℕ) : Type 0 where
 pub length-path : (m : List ℕ) (at : ℕ) → nextAt m at ≤ length m → length (entryAt m at .path) ≡ lenAt m at
 length-path m at h = length-take-le (lenAt m at) (drop (at + 3) m) (simp length-drop (omega arith))
 
+-- the bytes behind an entry's head are its path
+pub path-lent : (m : List ℕ) (at n : ℕ) → n ≡ lenAt m at → take (at + 3 + n - (at + 3)) (drop (at + 3) m) ≡ entryAt m at .path
+path-lent m at n e =
+    let k : at + 3 + n - (at + 3) ≡ lenAt m at = omega arith in
+    ap (λ (j : ℕ). take j (drop (at + 3) m)) k
+
 -- where a definition recurses
 module _ {m : List ℕ} {n at : ℕ} (r : Rest m (suc n) at) where
   pub here-suc : Here m at
-  unfolding isEntry every entriesAt
+  unfolding isEntry isPath every entriesAt
   here-suc =
       let inside = first-inside m n at (r .within) in
       let good = and-left (isEntry (entryAt m at)) _ (r .each) in
       let short : length (entryAt m at .path) ≤ maxPath = leb-true _ _ (and-left (leb (length (entryAt m at .path)) maxPath) _ good) in
       record {
-        kind = leb-true _ _ (and-left (leb (getD m at 0) 3) _ (first-within m n at (r .within)));
+        kind = leb-true _ _ (sym (kind-bound (getD m at 0)) ∙ and-left (isKind (kindOf (getD m at 0))) _ (first-within m n at (r .within)));
         inside = inside;
         short = omega (arith, length-path m at inside);
         resolved = and-right (leb (length (entryAt m at .path)) maxPath) _ good;
@@ -211,7 +234,7 @@ rest-take m (suc k) (suc n) at h r =
     let i = here-suc r in
     let s = rest-take m k n (nextAt m at) (le-of-suc-le-suc h) (rest-suc r) in
     record {
-      within = rw (le-leb _ _ (i .kind), le-leb _ _ (i .inside)) (s .within);
+      within = rw (kind-bound (getD m at 0), le-leb _ _ (i .kind), le-leb _ _ (i .inside)) (s .within);
       each = rw (i .good) (s .each);
     }
 

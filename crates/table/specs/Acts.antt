@@ -2,15 +2,16 @@
 -- "A call comes in" (revoke) and "Placing an entry" (insert).
 use Prim.Native.Nat.{ℕ, _+_}
 use mathlib.Core.List.{List, [], _∷_}
-use mathlib.Core.Bool.{Bool, true, false, _&&_, _||_, not}
+use mathlib.Core.Bool.{Bool, true, false, _&&_, not}
 use lib.ListN.{length}
 use lib.Dec.{leb, ltb}
 use Rattle.table.specs.Entries.{Entry, isGranted}
 use Rattle.table.specs.declared.Place.{Place}
 use Rattle.table.specs.declared.Place.the-variants.{Found, At}
 use Rattle.table.specs.Placing.{place, placedAt}
-use Rattle.table.specs.Tables.{Table, granted, clearBit, marked, maxEntries, maxPathBytes, pathBytes}
+use Rattle.table.specs.Tables.{Table, granted, clearBit, marked, maxEntries, maxPathBytes, maxSwitches, pathBytes, isEntry}
 use Rattle.paths.specs.Relations.{isPrefix}
+use Rattle.paths.specs.Giving.{isPath}
 
 -- paths are resolved ones
 pub data Act : Type 0 where
@@ -63,14 +64,6 @@ without dropped (e ∷ es) = keptUnless (dropped e) e (without dropped es)
 unfoldable pub revokedBy : List ℕ → Entry → Bool
 revokedBy q e = isGranted (e .kind) && isPrefix (e .path) q
 
--- a G, where all of them go or its path is a prefix of q
-unfoldable pub droppedBy : Bool → List ℕ → Entry → Bool
-droppedBy all q e = isGranted (e .kind) && (all || isPrefix (e .path) q)
-
--- the table without the entries that are dropped
-abbrev pub dropping : (Entry → Bool) → Table → Table
-dropping dropped t = record { entries = without dropped (t .entries); switches = t .switches; marks = t .marks }
-
 -- ---- what an act does
 
 unfoldable pub applyAct : Table → Act → Table
@@ -82,6 +75,20 @@ applyAct t revokeAll = record {
   switches = clearBit (t .switches) granted;
   marks = t .marks;
 }
+
+-- an act that has no room: an insert that overflows
+unfoldable pub actOverflows : Table → Act → Bool
+actOverflows t (insert e) = overflows t e
+actOverflows t (setSwitches v) = false
+actOverflows t (revoke q) = false
+actOverflows t revokeAll = false
+
+-- an act that can be recorded: its path is in resolved form and within its limit, or its switches are known ones
+unfoldable pub isAct : Act → Bool
+isAct (insert e) = isEntry e
+isAct (setSwitches v) = leb v maxSwitches
+isAct (revoke q) = isPath q
+isAct revokeAll = true
 
 -- acts done in turn
 unfoldable pub applyActs : Table → List Act → Table

@@ -1,58 +1,77 @@
 -- The calls on a table: for each its checking order, its answer, and the memory after it. Document 01, "A call comes in".
 use Prim.Native.Nat.{ℕ}
 use mathlib.Core.Path.{_≡_}
-use mathlib.Core.List.{List, [], _∷_, _++_}
-use mathlib.Core.Option.{Option, none, some}
+use mathlib.Core.List.{List, [], _∷_}
+use mathlib.Core.Option.{some}
 use mathlib.Core.Bool.{not}
 use lib.ListN.{length}
 use lib.Dec.{ltb}
-use Rattle.refusals.specs.declared.Refusal.{Refusal}
-use Rattle.refusals.specs.declared.Refusal.the-variants.{NoTable, Unknown, TableFull}
-use Rattle.refusals.specs.Refusals.{Condition, when, firstCause}
-use Rattle.paths.specs.Resolving.{resolve, pathConditions}
+use Rattle.refusals.specs.declared.Refusal.the-variants.{NoTable, Unknown}
+use Rattle.refusals.specs.Refusals.{when, firstCause, Result, refused, ok, andThen, unless, causeOf}
+use Rattle.paths.specs.Giving.{resolved}
+use Rattle.table.specs.declared.Numbering.{Numbering}
+use Rattle.table.specs.declared.Numbering.the-variants.{Plain}
 use Rattle.table.specs.declared.Outcome.{Outcome}
-use Rattle.table.specs.declared.Outcome.the-variants.{Done, Refused}
-use Rattle.table.specs.Entries.{Entry}
-use Rattle.table.specs.Tables.{Table, maxSwitches}
-use Rattle.table.specs.Acts.{overflows}
-use Rattle.table.specs.Memory.{tableBytes, kindFrom, tableOf, holds, put}
+use Rattle.table.specs.Entries.{kindOf, knownKind}
+use Rattle.table.specs.Tables.{Table, fresh, maxSwitches}
+use Rattle.table.specs.Acts.{Act, insert, setSwitches}
+use Rattle.table.specs.Memory.{tableBytes, tableOf, holds, put, doActs}
+use Rattle.table.specs.Carrying.{carryCause, outcomeOf}
 
--- ---- what a call does
+-- ---- steps of the checking order
 
-unfoldable pub outcomeOf : Option Refusal → Outcome
-outcomeOf none = Done
-outcomeOf (some cause) = Refused cause
+-- 1: the table that the lent memory holds
+unfoldable pub tableIn : List ℕ → Result Table
+tableIn m = unless (firstCause (when (not (holds m)) NoTable ∷ [])) (tableOf m)
 
-unfoldable pub memoryAfter : Option Refusal → List ℕ → List ℕ → List ℕ
-memoryAfter none before done = done
-memoryAfter (some cause) before done = before
+-- 1: memory about to get a fresh or child table need only be large enough
+unfoldable pub freshIn : List ℕ → Result Table
+freshIn m = unless (firstCause (when (ltb (length m) tableBytes) NoTable ∷ [])) fresh
 
--- The call is refused by the first of the conditions that holds, and the memory stays as it was; else the memory holds t.
-pub record Does (conditions : List Condition) (t : Table) (before after : List ℕ) (r : Outcome) : Type 0 where
-  pub answer : r ≡ outcomeOf (firstCause conditions)
-  pub memory : after ≡ memoryAfter (firstCause conditions) before (put t before)
+-- 3: known switches
+unfoldable pub knownSwitches : ℕ → Result ℕ
+knownSwitches v = unless (firstCause (when (ltb maxSwitches v) Unknown ∷ [])) v
 
--- ---- the checking order of each call; m is the lent memory
+-- 8 and 9: an act on the table t
+unfoldable pub carried : Numbering → Table → Act → Result Act
+carried numbers t act = unless (carryCause numbers t (some act)) act
 
--- memory about to get a fresh table need only be large enough
-unfoldable pub freshConditions : List ℕ → List Condition
-freshConditions m = when (ltb (length m) tableBytes) NoTable ∷ []
+-- the acts of a call that makes one unless it is refused
+unfoldable pub actsIn : Result Act → List Act
+actsIn (refused cause) = []
+actsIn (ok act) = act ∷ []
 
-unfoldable pub tableConditions : List ℕ → List Condition
-tableConditions m = when (not (holds m)) NoTable ∷ []
+-- what a call answers that makes one act unless it is refused, and memory m after it
+pub record Does (call : Result Act) (m m′ : List ℕ) (r : Outcome) : Type 0 where
+  pub outcome : r ≡ outcomeOf (causeOf call)
+  pub memory : m′ ≡ doActs m (actsIn call)
 
-unfoldable pub switchesConditions : List ℕ → ℕ → List Condition
-switchesConditions m v = tableConditions m ++ when (ltb maxSwitches v) Unknown ∷ []
+-- ---- a fresh table
 
--- the entry of a kind number, a path as given and its working directory
-unfoldable pub givenEntry : ℕ → List ℕ → List ℕ → Entry
-givenEntry kind p cwd = record { kind = kindFrom kind; path = resolve p cwd }
+unfoldable pub putIn : Result Table → List ℕ → List ℕ
+putIn (refused cause) m = m
+putIn (ok t) m = put t m
 
-unfoldable pub insertConditions : List ℕ → ℕ → List ℕ → List ℕ → List Condition
-insertConditions m kind p cwd =
-    tableConditions m
-    ++ when (ltb 3 kind) Unknown
-    ∷ (pathConditions p cwd ++ when (overflows (tableOf m) (givenEntry kind p cwd)) TableFull ∷ [])
+pub record MakesFresh (m m′ : List ℕ) (r : Outcome) : Type 0 where
+  pub outcome : r ≡ outcomeOf (causeOf (freshIn m))
+  pub memory : m′ ≡ putIn (freshIn m) m
 
-unfoldable pub revokeConditions : List ℕ → List ℕ → List ℕ → List Condition
-revokeConditions m p cwd = tableConditions m ++ pathConditions p cwd
+-- ---- switches
+
+unfoldable pub switchesCall : Numbering → List ℕ → ℕ → Result Act
+switchesCall numbers m v = andThen (tableIn m) (λ t. andThen (knownSwitches v) (λ k. carried numbers t (setSwitches k)))
+
+abbrev pub SetsSwitches : List ℕ → ℕ → List ℕ → Outcome → Type 0
+SetsSwitches m v m′ r = Does (switchesCall Plain m v) m m′ r
+
+-- ---- insert
+
+unfoldable pub insertCall : Numbering → List ℕ → ℕ → List ℕ → List ℕ → Result Act
+insertCall numbers m kind p cwd =
+    andThen (tableIn m) (λ t.
+    andThen (knownKind (kindOf kind)) (λ k.
+    andThen (resolved p cwd) (λ q.
+    carried numbers t (insert (record { kind = k; path = q })))))
+
+abbrev pub Inserts : List ℕ → ℕ → List ℕ → List ℕ → List ℕ → Outcome → Type 0
+Inserts m kind p cwd m′ r = Does (insertCall Plain m kind p cwd) m m′ r

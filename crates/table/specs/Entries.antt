@@ -1,11 +1,14 @@
 -- Entries, their kinds, and the comparison of two. Document 01, "A call comes in" (kinds) and "Placing an entry" (comparison).
 use Prim.Native.Nat.{ℕ, zero, suc}
 use mathlib.Core.List.{List}
-use mathlib.Core.Option.{Option, none, some}
 use mathlib.Core.Bool.{Bool, true, false, _&&_, not, cond}
 use lib.IntN.{ℤ, negℤ}
 use Rattle.table.specs.declared.Kind.{Kind}
 use Rattle.table.specs.declared.Kind.the-variants.{G, D, P, I}
+use Rattle.table.specs.declared.KindRead.{KindRead}
+use Rattle.table.specs.declared.KindRead.the-variants as kind-read
+use Rattle.refusals.specs.declared.Refusal.the-variants.{Unknown}
+use Rattle.refusals.specs.Refusals.{Result, refused, ok}
 use Rattle.paths.specs.Relations.{isPrefix, pathOrder, numberOrder, less, greater}
 
 -- ---- kinds: G granted, D flag-denied, P prompt-denied, I flag-ignored
@@ -17,12 +20,21 @@ kindNumber P = 2
 kindNumber I = 3
 
 -- the kind that a number names; none has a number above 3
-unfoldable pub kindOf : ℕ → Option Kind
-kindOf zero = some G
-kindOf (suc zero) = some D
-kindOf (suc (suc zero)) = some P
-kindOf (suc (suc (suc zero))) = some I
-kindOf (suc (suc (suc (suc n)))) = none
+unfoldable pub kindOf : ℕ → KindRead
+kindOf zero = kind-read.Kind G
+kindOf (suc zero) = kind-read.Kind D
+kindOf (suc (suc zero)) = kind-read.Kind P
+kindOf (suc (suc (suc zero))) = kind-read.Kind I
+kindOf (suc (suc (suc (suc n)))) = kind-read.Unknown
+
+unfoldable pub isKind : KindRead → Bool
+isKind (kind-read.Kind k) = true
+isKind kind-read.Unknown = false
+
+-- 3 where it names none
+unfoldable pub knownKind : KindRead → Result Kind
+knownKind (kind-read.Kind k) = ok k
+knownKind kind-read.Unknown = refused Unknown
 
 abbrev pub isGranted : Kind → Bool
 isGranted G = true

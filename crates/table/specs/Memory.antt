@@ -7,9 +7,12 @@ use mathlib.Core.Bool.{Bool, true, _&&_}
 use lib.ListN.{length, getD, take, drop}
 use lib.Dec.{leb}
 use Rattle.table.specs.declared.Kind.{Kind}
-use Rattle.table.specs.declared.Kind.the-variants.{G, D, P, I}
-use Rattle.table.specs.Entries.{Entry, kindNumber}
+use Rattle.table.specs.declared.Kind.the-variants.{I}
+use Rattle.table.specs.declared.KindRead.{KindRead}
+use Rattle.table.specs.declared.KindRead.the-variants as kind-read
+use Rattle.table.specs.Entries.{Entry, kindNumber, kindOf, isKind}
 use Rattle.table.specs.Tables.{Table, isTable}
+use Rattle.table.specs.Acts.{Act, applyAct}
 
 -- the largest table: 4 + 256 · 3 + 32,768
 abbrev pub tableBytes : ℕ
@@ -29,12 +32,13 @@ lenAt m at = wordAt m (at + 1)
 abbrev pub nextAt : List ℕ → ℕ → ℕ
 nextAt m at = at + 3 + lenAt m at
 
--- the kind of a kind byte; memory with a byte above 3 there holds no table
-unfoldable pub kindFrom : ℕ → Kind
-kindFrom zero = G
-kindFrom (suc zero) = D
-kindFrom (suc (suc zero)) = P
-kindFrom (suc (suc (suc n))) = I
+-- the kind of a kind byte; memory with a byte that names none holds no table, whatever is put here
+unfoldable pub kindIn : KindRead → Kind
+kindIn (kind-read.Kind k) = k
+kindIn kind-read.Unknown = I
+
+abbrev pub kindFrom : ℕ → Kind
+kindFrom n = kindIn (kindOf n)
 
 abbrev pub entryAt : List ℕ → ℕ → Entry
 entryAt m at = record { kind = kindFrom (getD m at 0); path = take (lenAt m at) (drop (at + 3) m) }
@@ -58,7 +62,7 @@ tableOf m = record { entries = entriesAt m (wordAt m 0) 4; switches = getD m 2 0
 -- n entries from `at` on have known kinds and lie within the memory
 unfoldable pub areWithin : List ℕ → ℕ → ℕ → Bool
 areWithin m zero at = true
-areWithin m (suc n) at = leb (getD m at 0) 3 && leb (nextAt m at) (length m) && areWithin m n (nextAt m at)
+areWithin m (suc n) at = isKind (kindOf (getD m at 0)) && leb (nextAt m at) (length m) && areWithin m n (nextAt m at)
 
 -- large enough for any table, with a table that keeps to the limits
 unfoldable pub holds : List ℕ → Bool
@@ -83,3 +87,13 @@ encode t =
 -- m with t written at its start; what lies behind t stays
 unfoldable pub put : Table → List ℕ → List ℕ
 put t m = encode t ++ drop (length (encode t)) m
+
+-- ---- acts in memory
+
+unfoldable pub doAct : List ℕ → Act → List ℕ
+doAct m a = put (applyAct (tableOf m) a) m
+
+-- acts in turn, each over what the one before left; no act is no change
+unfoldable pub doActs : List ℕ → List Act → List ℕ
+doActs m [] = m
+doActs m (a ∷ acts) = doActs (doAct m a) acts

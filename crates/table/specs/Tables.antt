@@ -7,7 +7,7 @@ use lib.Dec.{leb, eqb}
 use Rattle.table.specs.declared.Kind.{Kind}
 use Rattle.table.specs.declared.Kind.the-variants.{G, D, P, I}
 use Rattle.table.specs.Entries.{Entry, kindNumber}
-use Rattle.paths.specs.Resolving.{maxPath, isResolved}
+use Rattle.paths.specs.Giving.{isPath}
 
 pub record Table : Type 0 where
   pub entries : List Entry
@@ -83,7 +83,7 @@ pathBytes (e ∷ es) = length (e .path) + pathBytes es
 
 -- an entry's path is resolved, so not empty, and within its limit
 unfoldable pub isEntry : Entry → Bool
-isEntry e = leb (length (e .path)) maxPath && isResolved (e .path)
+isEntry e = isPath (e .path)
 
 unfoldable pub every : (Entry → Bool) → List Entry → Bool
 every holds [] = true

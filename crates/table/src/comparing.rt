@@ -70,7 +70,7 @@ fn compare_granted(old_path: &[u8], new_path: &[u8]) -> i8
 }
 
 // An old entry with a new one.
-pub fn compare(old: Kind, old_path: &[u8], new: Kind, new_path: &[u8]) -> i8
+pub(crate) fn compare(old: Kind, old_path: &[u8], new: Kind, new_path: &[u8]) -> i8
     ensures { λ r. ⌜ r ≡ compare (record { kind = old; path = now («old_path» .entry) }) (record { kind = new; path = now («new_path» .entry) }) ⌝ }
 {
     if is_granted(old) {

@@ -1,7 +1,18 @@
 // Whether lent memory holds a table.
-use crate::inserting::marked;
+use crate::ENTRY_HEAD;
+use crate::HEAD;
+use crate::MARKS_AT;
+use crate::MAX_ENTRIES;
+use crate::MAX_KIND;
+use crate::MAX_PATH_BYTES;
+use crate::MAX_SWITCHES;
+use crate::SWITCHES_AT;
+use crate::TABLE_BYTES;
+use crate::bits::marked;
+use crate::reading::entry_path;
 use crate::reading::kind_from;
 use crate::reading::word_at;
+use paths::MAX_PATH;
 ghost use mathlib.Core.Path.{_≡_};
 ghost use Prim.Native.Nat.{_+_, _≤_};
 ghost use lib.ListN.{length};
@@ -14,19 +25,17 @@ fn entry_fits(mem: &[u8], room: usize, at: usize) -> bool
     requires { ⌜ at + 3 + room ≤ length (now mem) ⌝ }
     ensures { λ r. ⌜ r ≡ entryFits (now (mem .entry)) room at ⌝ }
 {
-    if mem[at] > 3 {
+    if mem[at] > MAX_KIND {
         return false;
     }
     let len = word_at(mem, at + 1);
-    if len > 1024 {
+    if len > MAX_PATH {
         return false;
     }
     if len > room {
         return false;
     }
-    let start = at + 3;
-    let end = start + len;
-    paths::resolving::is_resolved(&mem[start..end])
+    paths::resolving::is_resolved(entry_path(mem, at))
 }
 
 // Whether `count` entries from offset 4 on fit, and are of the kinds that the marks say.
@@ -35,8 +44,8 @@ fn entries_fit(mem: &[u8], count: usize) -> bool
     ensures { λ r. ⌜ r ≡ scanned (now (mem .entry)) count maxPathBytes 0 4 ⌝ }
 {
     let mut left = count;
-    let mut room: usize = 32768;
-    let mut at: usize = 4;
+    let mut room: usize = MAX_PATH_BYTES;
+    let mut at: usize = HEAD;
     let mut seen: u8 = 0;
     while left > 0 {
         if !entry_fits(mem, room, at) {
@@ -45,24 +54,24 @@ fn entries_fit(mem: &[u8], count: usize) -> bool
         seen = marked(kind_from(mem[at]), seen);
         let len = word_at(mem, at + 1);
         room -= len;
-        at = at + 3 + len;
+        at = at + ENTRY_HEAD + len;
         left -= 1;
     }
-    seen == mem[3]
+    seen == mem[MARKS_AT]
 }
 
 // Whether the memory is large enough for any table and holds one.
 pub fn holds_table(mem: &[u8]) -> bool
     ensures { λ r. ⌜ r ≡ holds (now (mem .entry)) ⌝ }
 {
-    if mem.len() < 33540 {
+    if mem.len() < TABLE_BYTES {
         return false;
     }
     let count = word_at(mem, 0);
-    if count > 256 {
+    if count > MAX_ENTRIES {
         return false;
     }
-    if mem[2] > 31 {
+    if mem[SWITCHES_AT] > MAX_SWITCHES {
         return false;
     }
     entries_fit(mem, count)

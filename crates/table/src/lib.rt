@@ -2,7 +2,10 @@
 use refusals::Refusal;
 
 pub mod acting;
+pub mod bits;
+pub mod carrying;
 pub mod comparing;
+pub mod copying;
 pub mod holding;
 pub mod inserting;
 pub mod listing;
@@ -10,6 +13,49 @@ pub mod placing;
 pub mod reading;
 pub mod revoking;
 pub mod writing;
+
+// The bytes of the largest table.
+pub const TABLE_BYTES: usize = 33540;
+
+// The bytes before the first entry, and those before an entry's path.
+const HEAD: usize = 4;
+
+const ENTRY_HEAD: usize = 3;
+
+// Where the switches and the marks stand.
+const SWITCHES_AT: usize = 2;
+
+const MARKS_AT: usize = 3;
+
+// Limits: entries, the sum of their path lengths, the last kind, and all five switches.
+const MAX_ENTRIES: usize = 256;
+
+const MAX_PATH_BYTES: usize = 32768;
+
+const MAX_KIND: u8 = 3;
+
+const MAX_SWITCHES: u8 = 31;
+
+// The greatest change number.
+const MAX_NUMBER: u64 = 16777215;
+
+// Switches.
+pub const GRANTED: u8 = 1;
+
+pub const FLAG_DENIED: u8 = 2;
+
+pub const FLAG_IGNORED: u8 = 4;
+
+pub const PROMPT_DENIED: u8 = 8;
+
+pub const PROMPT: u8 = 16;
+
+// Marks.
+pub const HAS_FLAG_DENIED: u8 = 1;
+
+pub const HAS_PROMPT_DENIED: u8 = 2;
+
+pub const HAS_FLAG_IGNORED: u8 = 4;
 
 // The kinds of an entry, by document 01's letters. The Rust's names are Granted, FlagDenied, PromptDenied and FlagIgnored.
 pub enum Kind {
@@ -19,16 +65,43 @@ pub enum Kind {
     I,
 }
 
+// The kind that a number names, if it names one.
+pub enum KindRead {
+    Kind(Kind),
+    Unknown,
+}
+
 // Where an insert puts its entry: nowhere, as an equal one is found, or at a place of the list.
 pub enum Place {
     Found,
     At(usize),
 }
 
+// What a call makes of a table: nothing, or an act, without its path, which is lent beside it.
+pub enum Action {
+    Nothing,
+    Insert(Kind),
+    SetSwitches(u8),
+    Revoke,
+    RevokeAll,
+}
+
+// Whether acts are numbered: a plain call numbers none, a linked one goes on after the main's last number.
+pub enum Numbering {
+    Plain,
+    After(u64),
+}
+
 // What a call on a table answers.
 pub enum Outcome {
     Done,
     Refused(Refusal),
+}
+
+// A place in a table's list: where the entry there begins, and how many entries are left, it among them.
+pub struct Cursor {
+    at: usize,
+    left: usize,
 }
 
 // What stands at an offset of memory: an entry, with its kind and where its path begins and ends, or no whole entry.

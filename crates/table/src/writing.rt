@@ -1,15 +1,16 @@
 // Writing into lent memory: each function writes a run of bytes from an offset on, and nothing else.
+use crate::ENTRY_HEAD;
 use crate::Kind;
 use paths::copying::copy_in;
 ghost use mathlib.Core.Path.{_≡_};
 ghost use Prim.Native.Nat.{_+_, _<_, _≤_};
 ghost use lib.ListN.{length, take, drop};
 ghost use Rattle.paths.specs.Copying.{overwrite};
-ghost use Rattle.table.specs.Entries.{Entry, kindNumber};
+ghost use Rattle.table.specs.Entries.{kindNumber};
 ghost use Rattle.table.specs.Memory.{word, encodeEntry};
 
 // The kind byte of a kind.
-pub fn kind_number(kind: Kind) -> u8
+fn kind_number(kind: Kind) -> u8
     ensures { λ r. ⌜ r ≡ kindNumber kind ⌝ }
 {
     match kind {
@@ -21,7 +22,7 @@ pub fn kind_number(kind: Kind) -> u8
 }
 
 // Moves n bytes to a higher offset, the last byte first.
-pub fn move_up(mem: &mut [u8], from: usize, to: usize, n: usize)
+pub(crate) fn move_up(mem: &mut [u8], from: usize, to: usize, n: usize)
     requires { ⌜ (from ≤ to) × (to + n ≤ length (now mem)) ⌝ }
     ensures { λ _. ⌜ now (mem .exit) ≡ overwrite (now (mem .entry)) to (take n (drop from (now (mem .entry)))) ⌝ }
 {
@@ -45,7 +46,7 @@ pub fn move_down(mem: &mut [u8], from: usize, to: usize, n: usize)
 }
 
 // Writes the count.
-pub fn set_count(mem: &mut [u8], n: usize)
+pub(crate) fn set_count(mem: &mut [u8], n: usize)
     requires { ⌜ (n < 65536) × (2 ≤ length (now mem)) ⌝ }
     ensures { λ _. ⌜ now (mem .exit) ≡ overwrite (now (mem .entry)) 0 (word n) ⌝ }
 {
@@ -54,7 +55,7 @@ pub fn set_count(mem: &mut [u8], n: usize)
 }
 
 // Writes an entry from an offset on.
-pub fn write_entry(mem: &mut [u8], at: usize, kind: Kind, path: &[u8])
+pub(crate) fn write_entry(mem: &mut [u8], at: usize, kind: Kind, path: &[u8])
     requires { ⌜ (length (now path) < 65536) × (at + 3 + length (now path) ≤ length (now mem)) ⌝ }
     ensures { λ _. ⌜ now (mem .exit) ≡ overwrite (now (mem .entry)) at (encodeEntry (record { kind = kind; path = now (path .entry) })) ⌝ }
 {
@@ -62,5 +63,5 @@ pub fn write_entry(mem: &mut [u8], at: usize, kind: Kind, path: &[u8])
     mem[at] = kind_number(kind);
     mem[at + 1] = (len / 256) as u8;
     mem[at + 2] = (len % 256) as u8;
-    copy_in(mem, at + 3, path);
+    copy_in(mem, at + ENTRY_HEAD, path);
 }

@@ -6,9 +6,11 @@ use crate::showing::say_mode;
 use crate::showing::say_named;
 use crate::showing::say_path;
 use crate::showing::say_refused;
+use calls::revoking;
+use paths::Descriptor;
 use table::Outcome;
 use table::acting;
-use walk::Descriptor;
+use walk::Answer;
 use walk::querying;
 ghost use Prim.Native.Nat.{_≤_};
 ghost use lib.ListN.{length};
@@ -85,13 +87,21 @@ fn say_outcome(outcome: Outcome, unchanged: bool) {
     }
 }
 
+// What a revoke answers, as the other acts answer.
+fn outcome_of(answer: Answer) -> Outcome {
+    match answer {
+        Answer::State(_) => Outcome::Done,
+        Answer::Refused(cause) => Outcome::Refused(cause),
+    }
+}
+
 fn carry_out(mem: &mut [u8], call: Call, path: &[u8], cwd: &[u8]) -> Outcome {
     match call {
         Call::Fresh => acting::make_fresh(mem),
         Call::Insert(kind) => acting::insert(mem, kind, path, cwd),
         Call::Switches(switches) => acting::set_switches(mem, switches),
-        Call::Revoke => acting::revoke(mem, path, cwd),
-        Call::RevokeAll => acting::revoke_all(mem),
+        Call::Revoke => outcome_of(revoking::revoke(mem, Descriptor::Path, path, cwd)),
+        Call::RevokeAll => outcome_of(revoking::revoke(mem, Descriptor::NoPath, path, cwd)),
     }
 }
 

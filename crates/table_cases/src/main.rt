@@ -1,4 +1,4 @@
-// Runs document 01's table cases through the calls of `table` and `walk`, and prints each answer.
+// Runs document 01's table cases through the calls of `table`, `walk` and `calls`, and prints each answer.
 mod calling;
 mod showing;
 

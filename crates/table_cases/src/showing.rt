@@ -1,14 +1,16 @@
 // Words, numbers, answers, and a table as it stands, in plain lines.
 use refusals::Refusal;
+use table::Cursor;
+use table::Kind;
 use table::holding::holds_table;
 use table::reading;
 use walk::Answer;
 use walk::PermissionState;
 ghost use mathlib.Core.Path.{_≡_};
 ghost use mathlib.Core.Bool.{true};
-ghost use Prim.Native.Nat.{_≤_};
-ghost use lib.ListN.{length};
-ghost use Rattle.table.specs.Memory.{nextAt, holds};
+ghost use Rattle.table.specs.Tables.{pathBytes};
+ghost use Rattle.table.specs.Memory.{tableOf, holds};
+ghost use Rattle.table.specs.Reading.{Reads, nextEntry};
 
 // ---- words
 
@@ -20,10 +22,6 @@ pub(crate) fn say(text: &[u8]) {
 pub(crate) fn say_named(name: &[u8], n: u64) {
     say(name);
     io::print_decimal(1, n);
-}
-
-fn wide(byte: u8) -> u32 {
-    byte as u32
 }
 
 // A path; of one too long for a line, how many bytes it has.
@@ -49,6 +47,15 @@ pub(crate) fn say_kind(kind: u32) {
             say_named(b"kind ", kind as u64);
             say(b" ");
         }
+    }
+}
+
+fn kind_number(kind: Kind) -> u32 {
+    match kind {
+        Kind::G => 0,
+        Kind::D => 1,
+        Kind::P => 2,
+        Kind::I => 3,
     }
 }
 
@@ -88,18 +95,19 @@ pub(crate) fn say_answer(answer: Answer) {
 
 // ---- a table as it stands
 
-// The entry at an offset, where `left` are still to be shown, this one among them.
-fn show_entry(mem: &[u8], at: usize, left: usize)
-    requires { ⌜ nextAt (now mem) at ≤ length (now mem) ⌝ }
+// Shows the entry at a place of the list, and hands on the next place.
+fn show_entry(mem: &[u8], cursor: Cursor) -> Cursor
+    requires { ⌜ Reads (now mem) cursor ⌝ }
+    ensures { λ r. ⌜ r ≡ nextEntry (now (mem .entry)) cursor ⌝ }
 {
-    let start = at + 3;
-    let end = start + reading::word_at(mem, at + 1);
     say(b" ");
-    say_kind(wide(mem[at]));
-    say_path(&mem[start..end]);
-    if left > 1 {
+    say_kind(kind_number(reading::kind(mem, cursor)));
+    say_path(reading::path(mem, cursor));
+    let next = reading::advance(mem, cursor);
+    if reading::is_at_entry(next) {
         say(b",");
     }
+    next
 }
 
 // The entries in list order.
@@ -107,43 +115,52 @@ fn show_entries(mem: &[u8])
     requires { ⌜ holds (now mem) ≡ true ⌝ }
 {
     say(b"list:");
-    let mut left = reading::word_at(mem, 0);
-    let mut at: usize = 4;
-    while left > 0 {
-        show_entry(mem, at, left);
-        at = reading::hop(mem, at, 1);
-        left -= 1;
+    let mut cursor = reading::first(mem);
+    while reading::is_at_entry(cursor) {
+        cursor = show_entry(mem, cursor);
     }
     say(b"\n");
 }
 
-// The sum of the path lengths: what lies between the head and the end of the entries, less three bytes for each entry.
-fn path_bytes(mem: &[u8]) -> usize
+fn count(mem: &[u8]) -> usize
     requires { ⌜ holds (now mem) ≡ true ⌝ }
 {
-    let count = reading::word_at(mem, 0);
-    reading::entry_offset(mem, count) - 4 - 3 * count
+    reading::word_at(mem, 0)
+}
+
+// The sum of the path lengths.
+fn path_bytes(mem: &[u8]) -> usize
+    requires { ⌜ holds (now mem) ≡ true ⌝ }
+    ensures { λ r. ⌜ r ≡ pathBytes (tableOf (now (mem .entry)) .entries) ⌝ }
+{
+    let mut sum: usize = 0;
+    let mut cursor = reading::first(mem);
+    while reading::is_at_entry(cursor) {
+        sum += reading::path(mem, cursor).len();
+        cursor = reading::advance(mem, cursor);
+    }
+    sum
 }
 
 // How many entries there are, the sum of their path lengths, the switches and the marks.
 fn show_sums(mem: &[u8])
     requires { ⌜ holds (now mem) ≡ true ⌝ }
 {
-    say_named(b"entries ", reading::word_at(mem, 0) as u64);
+    say_named(b"entries ", count(mem) as u64);
     say_named(b", path bytes ", path_bytes(mem) as u64);
-    say_named(b", switches ", wide(mem[2]) as u64);
-    say_named(b", marks ", wide(mem[3]) as u64);
+    say_named(b", switches ", reading::switches(mem) as u64);
+    say_named(b", marks ", reading::marks(mem) as u64);
     say(b"\n");
 }
 
 // The sums, and of a table that is not long the entries.
 pub(crate) fn show(mem: &[u8]) {
-    if !holds_table(mem) {
+    if holds_table(mem) {
+        if count(mem) <= 8 {
+            show_entries(mem);
+        }
+        show_sums(mem);
+    } else {
         say(b"no table\n");
-        return;
     }
-    if reading::word_at(mem, 0) <= 8 {
-        show_entries(mem);
-    }
-    show_sums(mem);
 }

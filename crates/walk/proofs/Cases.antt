@@ -8,6 +8,7 @@ use Rattle.walk.specs.Walk.{
   matches,
   firstMatch,
   isFlag,
+  isFlagBelow,
   isPartial,
   allowed,
   decidedBy,
@@ -34,7 +35,7 @@ either x false false = refl
 
 pub starred : EveryRow rows
 unfolding Right bytes entry
-    matchesKind matches firstMatch isFlag isPartial allowed decidedBy isDeniedMode isDenied withoutMatch byMatch queryDesc
+    matchesKind matches firstMatch isFlag isFlagBelow isPartial allowed decidedBy isDeniedMode isDenied withoutMatch byMatch queryDesc
     samePath strictlyExtends compareAlike grantedOrder compare
     isAfter searchFrom search placeBy place placedAt
     has setBit clearBit marked any

@@ -1,43 +1,27 @@
 -- The call query: its checking order and its answer. Document 01, "A call comes in".
-use Prim.Native.Nat.{ℕ, zero, suc}
-use mathlib.Core.List.{List, [], _∷_, _++_}
-use mathlib.Core.Option.{Option, none, some}
-use lib.Dec.{ltb}
-use Rattle.refusals.specs.declared.Refusal.{Refusal}
-use Rattle.refusals.specs.declared.Refusal.the-variants.{Unknown}
-use Rattle.refusals.specs.Refusals.{Condition, when, firstCause}
-use Rattle.paths.specs.Resolving.{resolve, pathConditions}
-use Rattle.table.specs.Memory.{tableOf}
-use Rattle.table.specs.Calls.{tableConditions}
+use Prim.Native.Nat.{ℕ}
+use mathlib.Core.List.{List}
+use Rattle.refusals.specs.Refusals.{Result, refused, ok, andThen}
+use Rattle.paths.specs.declared.Descriptor.{Descriptor}
+use Rattle.paths.specs.Giving.{given}
+use Rattle.table.specs.Calls.{tableIn}
 use Rattle.walk.specs.declared.PermissionState.{PermissionState}
-use Rattle.walk.specs.declared.AllowPartial.{AllowPartial}
-use Rattle.walk.specs.declared.AllowPartial.the-variants.{TreatAsDenied, TreatAsPartialGranted, TreatAsGranted}
-use Rattle.walk.specs.declared.Descriptor.{Descriptor}
-use Rattle.walk.specs.declared.Descriptor.the-variants.{NoPath, Path}
 use Rattle.walk.specs.declared.Answer.{Answer}
 use Rattle.walk.specs.declared.Answer.the-variants.{State, Refused}
-use Rattle.walk.specs.Walk.{queryOf, queryDesc}
+use Rattle.walk.specs.Walk.{modeOf, knownMode, queryDesc}
 
--- with no path nothing is given, and the working directory is not looked at
-unfoldable pub givenConditions : Descriptor → List ℕ → List ℕ → List Condition
-givenConditions NoPath p cwd = []
-givenConditions Path p cwd = pathConditions p cwd
+-- 1, 3, 4 to 7, and then the state; m is the lent memory, p the path as given
+unfoldable pub queryCall : List ℕ → ℕ → Descriptor → List ℕ → List ℕ → Result PermissionState
+queryCall m mode d p cwd =
+    andThen (tableIn m) (λ t.
+    andThen (knownMode (modeOf mode)) (λ known.
+    andThen (given d p cwd) (λ q.
+    ok (queryDesc t known q))))
 
--- m is the lent memory, p the path as given
-unfoldable pub queryConditions : List ℕ → ℕ → Descriptor → List ℕ → List ℕ → List Condition
-queryConditions m mode d p cwd = tableConditions m ++ when (ltb 2 mode) Unknown ∷ givenConditions d p cwd
-
--- the mode of a known mode number; a query with a number above 2 is refused
-unfoldable pub modeFrom : ℕ → AllowPartial
-modeFrom zero = TreatAsDenied
-modeFrom (suc zero) = TreatAsPartialGranted
-modeFrom (suc (suc n)) = TreatAsGranted
-
-unfoldable pub answerOf : Option Refusal → PermissionState → Answer
-answerOf none state = State state
-answerOf (some cause) state = Refused cause
+unfoldable pub answerOf : Result PermissionState → Answer
+answerOf (refused cause) = Refused cause
+answerOf (ok state) = State state
 
 -- the state, or the first cause
 unfoldable pub queryAnswer : List ℕ → ℕ → Descriptor → List ℕ → List ℕ → Answer
-queryAnswer m mode d p cwd =
-    answerOf (firstCause (queryConditions m mode d p cwd)) (queryDesc (tableOf m) (modeFrom mode) (queryOf d (resolve p cwd)))
+queryAnswer m mode d p cwd = answerOf (queryCall m mode d p cwd)

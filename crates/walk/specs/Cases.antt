@@ -17,13 +17,14 @@ use Rattle.walk.specs.declared.PermissionState.the-variants.{
 }
 use Rattle.walk.specs.declared.AllowPartial.{AllowPartial}
 use Rattle.walk.specs.declared.AllowPartial.the-variants.{TreatAsDenied, TreatAsPartialGranted}
-use Rattle.walk.specs.Walk.{Query, noPath, path, queryDesc}
+use Rattle.walk.specs.Walk.{queryDesc}
 use Rattle.table.specs.declared.Kind.{Kind}
 use Rattle.table.specs.declared.Kind.the-variants.{G, D, P}
 use Rattle.table.specs.Entries.{Entry, compare}
 use Rattle.table.specs.Tables.{fresh, flagIgnored}
 use Rattle.table.specs.Acts.{Act, insert, setSwitches, revoke, applyActs}
 use Rattle.paths.specs.Resolving.{resolve}
+use Rattle.paths.specs.Giving.{Query, noPath, path}
 use Rattle.paths.specs.Relations.{isPrefix, pathOrder, less}
 
 -- the bytes of a text in ASCII

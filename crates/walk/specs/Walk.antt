@@ -17,10 +17,9 @@ use Rattle.walk.specs.declared.AllowPartial.{AllowPartial}
 use Rattle.walk.specs.declared.AllowPartial.the-variants.{TreatAsDenied, TreatAsPartialGranted, TreatAsGranted}
 use Rattle.walk.specs.declared.ModeRead.{ModeRead}
 use Rattle.walk.specs.declared.ModeRead.the-variants.{Mode, Unknown}
-use Rattle.walk.specs.declared.Descriptor.{Descriptor}
-use Rattle.walk.specs.declared.Descriptor.the-variants.{NoPath, Path}
-use Rattle.walk.specs.declared.ExactMatch.{ExactMatch}
-use Rattle.walk.specs.declared.ExactMatch.the-variants.{Undecided, State}
+use Rattle.refusals.specs.declared.Refusal.the-variants as refusal
+use Rattle.refusals.specs.Refusals.{Result, refused, ok}
+use Rattle.paths.specs.Giving.{Query, noPath, path}
 use Rattle.table.specs.declared.Kind.{Kind}
 use Rattle.table.specs.declared.Kind.the-variants.{G, D, P, I}
 use Rattle.table.specs.Entries.{Entry}
@@ -56,31 +55,16 @@ modeNumber TreatAsPartialGranted = 1
 modeNumber TreatAsGranted = 2
 
 -- the mode that a number names; none has a number above 2
-unfoldable pub modeOf : ℕ → Option AllowPartial
-modeOf zero = some TreatAsDenied
-modeOf (suc zero) = some TreatAsPartialGranted
-modeOf (suc (suc zero)) = some TreatAsGranted
-modeOf (suc (suc (suc n))) = none
+unfoldable pub modeOf : ℕ → ModeRead
+modeOf zero = Mode TreatAsDenied
+modeOf (suc zero) = Mode TreatAsPartialGranted
+modeOf (suc (suc zero)) = Mode TreatAsGranted
+modeOf (suc (suc (suc n))) = Unknown
 
--- the same as an answer of the code
-unfoldable pub readAs : Option AllowPartial → ModeRead
-readAs none = Unknown
-readAs (some mode) = Mode mode
-
-unfoldable pub modeRead : ℕ → ModeRead
-modeRead n = readAs (modeOf n)
-
--- ---- what is asked about
-
--- no path, or a resolved one
-pub data Query : Type 0 where
-  noPath : Query
-  path : List ℕ → Query
-
--- a descriptor says whether there is a path, with the bytes lent beside it
-unfoldable pub queryOf : Descriptor → List ℕ → Query
-queryOf NoPath q = noPath
-queryOf Path q = path q
+-- 3 where it names none
+unfoldable pub knownMode : ModeRead → Result AllowPartial
+knownMode (Mode mode) = ok mode
+knownMode Unknown = refused refusal.Unknown
 
 -- ---- the walk
 
@@ -108,10 +92,14 @@ isFlag D = true
 isFlag P = false
 isFlag I = true
 
+-- a D or I whose path has prefix q
+unfoldable pub isFlagBelow : List ℕ → Entry → Bool
+isFlagBelow q e = isFlag (e .kind) && isPrefix q (e .path)
+
 -- the Rust's `is_partial_flag_denied`: some D or I path has prefix q; with no path, mark 1 or 4
 unfoldable pub isPartial : Table → Query → Bool
 isPartial t noPath = has (t .marks) hasFlagDenied || has (t .marks) hasFlagIgnored
-isPartial t (path q) = any (λ e. isFlag (e .kind) && isPrefix q (e .path)) (t .entries)
+isPartial t (path q) = any (isFlagBelow q) (t .entries)
 
 -- allowed is Granted, but when partial it is DeniedPartial in mode denied and GrantedPartial in mode partial
 unfoldable pub allowed : Bool → AllowPartial → PermissionState
@@ -151,14 +139,6 @@ withoutMatch t mode d =
 unfoldable pub byMatch : Table → AllowPartial → Query → Option Entry → PermissionState
 byMatch t mode d none = withoutMatch t mode d
 byMatch t mode d (some e) = decidedBy (e .kind) (allowed (isPartial t d) mode)
-
--- the Rust's `query_allowed_desc_for_exact_match`, for a path: what the first match decides, if there is one
-unfoldable pub exactBy : Table → AllowPartial → List ℕ → Option Entry → ExactMatch
-exactBy t mode q none = Undecided
-exactBy t mode q (some e) = State (decidedBy (e .kind) (allowed (isPartial t (path q)) mode))
-
-unfoldable pub exactMatch : Table → AllowPartial → List ℕ → ExactMatch
-exactMatch t mode q = exactBy t mode q (firstMatch q (t .entries))
 
 -- the Rust's `query_desc`; with no path the walk is skipped
 unfoldable pub queryDesc : Table → AllowPartial → Query → PermissionState

@@ -27,12 +27,6 @@ pub enum ModeRead {
     Unknown,
 }
 
-// What is asked about: no path, or the path whose bytes are lent beside it.
-pub enum Descriptor {
-    NoPath,
-    Path,
-}
-
 // What the entries alone say of a path: nothing, as none matches, or the state that the first match decides.
 pub enum ExactMatch {
     Undecided,

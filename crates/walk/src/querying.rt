@@ -1,11 +1,12 @@
 // The call query: the checking order, and then the walk. The lent memory is not changed.
 use crate::Answer;
-use crate::Descriptor;
 use crate::ModeRead;
 use crate::walking::mode_of;
 use crate::walking::query_desc;
+use paths::Descriptor;
+use paths::MAX_PATH;
 use paths::Resolution;
-use paths::resolving::resolve;
+use paths::giving::resolve_given;
 use refusals::Refusal;
 use table::holding::holds_table;
 ghost use mathlib.Core.Path.{_≡_};
@@ -21,14 +22,9 @@ pub fn query(mem: &[u8], mode: u32, d: Descriptor, path: &[u8], cwd: &[u8]) -> A
     let ModeRead::Mode(known) = mode_of(mode) else {
         return Answer::Refused(Refusal::Unknown);
     };
-    match d {
-        Descriptor::NoPath => Answer::State(query_desc(mem, known, d, b"")),
-        Descriptor::Path => {
-            let mut space = [0u8; 1024];
-            match resolve(path, cwd, &mut space) {
-                Resolution::Refused(cause) => Answer::Refused(cause),
-                Resolution::Resolved(n) => Answer::State(query_desc(mem, known, d, &space[..n])),
-            }
-        }
+    let mut space = [0u8; MAX_PATH];
+    match resolve_given(d, path, cwd, &mut space) {
+        Resolution::Refused(cause) => Answer::Refused(cause),
+        Resolution::Resolved(n) => Answer::State(query_desc(mem, known, d, &space[..n])),
     }
 }

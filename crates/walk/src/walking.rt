@@ -1,55 +1,45 @@
 // What a query answers, from a table in lent memory. Document 01, "The walk". The names are the Rust's where a function is.
 use crate::AllowPartial;
-use crate::Descriptor;
 use crate::ExactMatch;
 use crate::ModeRead;
 use crate::PermissionState;
+use paths::Descriptor;
 use paths::relating::is_prefix;
+use table::Cursor;
+use table::FLAG_DENIED;
+use table::FLAG_IGNORED;
+use table::GRANTED;
+use table::HAS_FLAG_DENIED;
+use table::HAS_FLAG_IGNORED;
+use table::HAS_PROMPT_DENIED;
 use table::Kind;
-use table::reading::kind_from;
-use table::reading::word_at;
+use table::PROMPT_DENIED;
+use table::reading;
+use table::reading::has_mark;
+use table::reading::has_switch;
 ghost use mathlib.Core.Path.{_≡_};
 ghost use mathlib.Core.Bool.{true, _&&_};
 ghost use mathlib.Core.List.{List};
-ghost use Prim.Native.Nat.{ℕ, _<_, _≤_};
-ghost use lib.ListN.{length};
-ghost use Rattle.paths.specs.Relations.{isPrefix};
-ghost use Rattle.table.specs.Tables.{has};
-ghost use Rattle.table.specs.Memory.{nextAt, entryAt, tableOf, holds};
+ghost use Prim.Native.Nat.{ℕ};
+ghost use Rattle.paths.specs.Giving.{path, queryOf};
+ghost use Rattle.table.specs.Memory.{tableOf, holds};
+ghost use Rattle.table.specs.Reading.{Reads, entryIn};
 ghost use Rattle.walk.specs.Walk.{
   stateNumber,
-  modeRead,
-  queryOf,
-  path,
+  modeOf,
   matchesKind,
   matches,
-  isFlag,
+  isFlagBelow,
   isPartial,
   allowed,
   decidedBy,
   isDenied,
   isDeniedMode,
   withoutMatch,
-  exactMatch,
   queryDesc,
   isAllowAll,
 };
-
-// Switches.
-const GRANTED: u8 = 1;
-
-const FLAG_DENIED: u8 = 2;
-
-const FLAG_IGNORED: u8 = 4;
-
-const PROMPT_DENIED: u8 = 8;
-
-// Marks.
-const HAS_FLAG_DENIED: u8 = 1;
-
-const HAS_PROMPT_DENIED: u8 = 2;
-
-const HAS_FLAG_IGNORED: u8 = 4;
+ghost use Rattle.walk.specs.Matching.{exactMatch};
 
 // ---- numbers
 
@@ -68,8 +58,8 @@ pub fn state_number(state: PermissionState) -> u8
 }
 
 // The mode that a number names.
-pub fn mode_of(n: u32) -> ModeRead
-    ensures { λ r. ⌜ r ≡ modeRead n ⌝ }
+pub(crate) fn mode_of(n: u32) -> ModeRead
+    ensures { λ r. ⌜ r ≡ modeOf n ⌝ }
 {
     match n {
         0 => ModeRead::Mode(AllowPartial::TreatAsDenied),
@@ -79,51 +69,7 @@ pub fn mode_of(n: u32) -> ModeRead
     }
 }
 
-// ---- switches and marks
-
-// Whether a number of switches or marks has the bit.
-pub fn has(n: u8, bit: u8) -> bool
-    requires { ⌜ 0 < bit ⌝ }
-    ensures { λ r. ⌜ r ≡ has n bit ⌝ }
-{
-    n / bit % 2 == 1
-}
-
-// Whether a switch is set.
-pub fn has_switch(mem: &[u8], bit: u8) -> bool
-    requires { ⌜ (holds (now mem) ≡ true) × (0 < bit) ⌝ }
-    ensures { λ r. ⌜ r ≡ has (tableOf (now (mem .entry)) .switches) bit ⌝ }
-{
-    has(mem[2], bit)
-}
-
-// Whether a mark is set.
-fn has_mark(mem: &[u8], bit: u8) -> bool
-    requires { ⌜ (holds (now mem) ≡ true) × (0 < bit) ⌝ }
-    ensures { λ r. ⌜ r ≡ has (tableOf (now (mem .entry)) .marks) bit ⌝ }
-{
-    has(mem[3], bit)
-}
-
 // ---- an entry
-
-// The path of the entry at an offset.
-fn path_at(mem: &[u8], at: usize) -> &[u8]
-    requires { ⌜ nextAt (now mem) at ≤ length (now mem) ⌝ }
-    ensures { λ r. ⌜ now r ≡ entryAt (now (mem .entry)) at .path ⌝ }
-{
-    let start = at + 3;
-    let end = start + word_at(mem, at + 1);
-    &mem[start..end]
-}
-
-// Where the entry after the one at an offset begins.
-fn next_at(mem: &[u8], at: usize) -> usize
-    requires { ⌜ nextAt (now mem) at ≤ length (now mem) ⌝ }
-    ensures { λ r. ⌜ r ≡ nextAt (now (mem .entry)) at ⌝ }
-{
-    at + 3 + word_at(mem, at + 1)
-}
 
 // Whether an entry with this kind and path matches q. P shuts its path and what lies above it, not what lies below.
 fn matches_kind(kind: Kind, path: &[u8], q: &[u8]) -> bool
@@ -137,24 +83,24 @@ fn matches_kind(kind: Kind, path: &[u8], q: &[u8]) -> bool
     }
 }
 
-// Whether the entry at an offset matches q.
-fn matches(mem: &[u8], at: usize, q: &[u8]) -> bool
-    requires { ⌜ nextAt (now mem) at ≤ length (now mem) ⌝ }
-    ensures { λ r. ⌜ r ≡ matches (now (q .entry)) (entryAt (now (mem .entry)) at) ⌝ }
+// Whether the entry where a cursor stands matches q.
+fn matches(mem: &[u8], cursor: Cursor, q: &[u8]) -> bool
+    requires { ⌜ Reads (now mem) cursor ⌝ }
+    ensures { λ r. ⌜ r ≡ matches (now (q .entry)) (entryIn (now (mem .entry)) cursor) ⌝ }
 {
-    matches_kind(kind_from(mem[at]), path_at(mem, at), q)
+    matches_kind(reading::kind(mem, cursor), reading::path(mem, cursor), q)
 }
 
-// Whether the entry at an offset is a D or I whose path has prefix q.
-fn is_flag_below(mem: &[u8], at: usize, q: &[u8]) -> bool
-    requires { ⌜ nextAt (now mem) at ≤ length (now mem) ⌝ }
-    ensures { λ r. ⌜ r ≡ isFlag (entryAt (now (mem .entry)) at .kind) && isPrefix (now (q .entry)) (entryAt (now (mem .entry)) at .path) ⌝ }
+// Whether it is a D or I whose path has prefix q.
+fn is_flag_below(mem: &[u8], cursor: Cursor, q: &[u8]) -> bool
+    requires { ⌜ Reads (now mem) cursor ⌝ }
+    ensures { λ r. ⌜ r ≡ isFlagBelow (now (q .entry)) (entryIn (now (mem .entry)) cursor) ⌝ }
 {
-    match kind_from(mem[at]) {
+    match reading::kind(mem, cursor) {
         Kind::G => false,
-        Kind::D => is_prefix(q, path_at(mem, at)),
+        Kind::D => is_prefix(q, reading::path(mem, cursor)),
         Kind::P => false,
-        Kind::I => is_prefix(q, path_at(mem, at)),
+        Kind::I => is_prefix(q, reading::path(mem, cursor)),
     }
 }
 
@@ -165,14 +111,12 @@ fn has_flag_below(mem: &[u8], q: &[u8]) -> bool
     requires { ⌜ holds (now mem) ≡ true ⌝ }
     ensures { λ r. ⌜ r ≡ isPartial (tableOf (now (mem .entry))) (path (now (q .entry))) ⌝ }
 {
-    let mut left = word_at(mem, 0);
-    let mut at: usize = 4;
-    while left > 0 {
-        if is_flag_below(mem, at, q) {
+    let mut cursor = reading::first(mem);
+    while reading::is_at_entry(cursor) {
+        if is_flag_below(mem, cursor, q) {
             return true;
         }
-        at = next_at(mem, at);
-        left -= 1;
+        cursor = reading::advance(mem, cursor);
     }
     false
 }
@@ -230,15 +174,12 @@ fn query_allowed_desc_for_exact_match(mem: &[u8], mode: AllowPartial, q: &[u8]) 
     requires { ⌜ holds (now mem) ≡ true ⌝ }
     ensures { λ r. ⌜ r ≡ exactMatch (tableOf (now (mem .entry))) mode (now (q .entry)) ⌝ }
 {
-    let mut left = word_at(mem, 0);
-    let mut at: usize = 4;
-    while left > 0 {
-        if matches(mem, at, q) {
-            let kind = kind_from(mem[at]);
-            return ExactMatch::State(decided_by(mem, kind, mode, q));
+    let mut cursor = reading::first(mem);
+    while reading::is_at_entry(cursor) {
+        if matches(mem, cursor, q) {
+            return ExactMatch::State(decided_by(mem, reading::kind(mem, cursor), mode, q));
         }
-        at = next_at(mem, at);
-        left -= 1;
+        cursor = reading::advance(mem, cursor);
     }
     ExactMatch::Undecided
 }
@@ -320,5 +261,5 @@ pub fn is_allow_all(mem: &[u8]) -> bool
     if has_switch(mem, PROMPT_DENIED) {
         return false;
     }
-    mem[3] == 0
+    reading::marks(mem) == 0
 }

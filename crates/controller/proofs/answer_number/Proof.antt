@@ -1,9 +1,9 @@
--- `answer_number` meets its contract.
-use mathlib.Core.Path.{sym, ap, _∙_}
+-- `answer_number` meets its contract: the sum is far below what an `i32` holds.
+use mathlib.Core.Path.{_∙_}
+use native.Mathlib.Omega.{arith}
 use mir.Syntax.{w32}
-use mir.Val.{toZ}
-use Rattle.controller.specs.Numbers.{answerNumber}
-use Rattle.controller.proofs.NumberLaws.{read-back, state-signed}
+use mir.Facts.{toZ-pos}
+use Rattle.table.proofs.ComparisonLaws.{read-back}
 use borrow.Author.Needs.{needs}
 use Rattle.controller.proofs.answer_number.Statement.{statement}
 use Rattle.controller.proofs.answer_number.Tie as tie
@@ -17,6 +17,12 @@ state-number-requires c κs = search needs
 cast-result : tie.Need-cast-result
 cast-result c = search needs
 
+add-result : tie.Need-add-result
+add-result c = search needs
+
+cast-result-2 : tie.Need-cast-result-2
+cast-result-2 c = search needs
+
 enum-known-answer-2 : tie.Need-enum-known-answer-2
 enum-known-answer-2 c = search needs
 
@@ -24,11 +30,10 @@ refused-requires : tie.Need-refused-requires
 refused-requires c κs = search needs
 
 returns : tie.Need-returns
-returns c =
-    ap (toZ w32) (c .state-number .ensures) ∙ state-signed (c .before .before .answer .given .0 .0) ∙ sym (ap answerNumber (c .before .before .answer .given .1))
+returns c = rw (c .before .before .answer .given .1, ← c .state-number .ensures) (toZ-pos w32 (omega arith))
 
 returns-2 : tie.Need-returns-2
-returns-2 c = read-back _ (c .refused .ok) ∙ c .refused .ensures ∙ sym (ap answerNumber (c .before .before .answer2 .given .1))
+returns-2 c = rw (c .before .before .answer2 .given .1) (read-back w32 _ (c .refused .ok) ∙ c .refused .ensures)
 
 pub answer-number-spec : {M : Type 1} → statement M
 answer-number-spec =
@@ -37,6 +42,8 @@ answer-number-spec =
     enum-known-answer
     state-number-requires
     cast-result
+    add-result
+    cast-result-2
     enum-known-answer-2
     refused-requires
     returns

@@ -1,7 +1,8 @@
 -- `outcome_number` meets its contract.
 use mathlib.Core.Path.{sym, ap, _∙_}
+use mir.Syntax.{w32}
 use Rattle.controller.specs.Numbers.{outcomeNumber}
-use Rattle.controller.proofs.NumberLaws.{read-back}
+use Rattle.table.proofs.ComparisonLaws.{read-back}
 use borrow.Author.Needs.{needs}
 use Rattle.controller.proofs.outcome_number.Statement.{statement}
 use Rattle.controller.proofs.outcome_number.Tie as tie
@@ -19,7 +20,7 @@ returns : tie.Need-returns
 returns c = sym (ap outcomeNumber (c .enum-told .given .1))
 
 returns-2 : tie.Need-returns-2
-returns-2 c = read-back _ (c .refused .ok) ∙ c .refused .ensures ∙ sym (ap outcomeNumber (c .before .before .outcome .given .1))
+returns-2 c = read-back w32 _ (c .refused .ok) ∙ c .refused .ensures ∙ sym (ap outcomeNumber (c .before .before .outcome .given .1))
 
 pub outcome-number-spec : {M : Type 1} → statement M
 outcome-number-spec =

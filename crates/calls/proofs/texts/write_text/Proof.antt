@@ -1,10 +1,11 @@
--- `read access` is written, and with a path ` to ` and the name behind it. Assumes nothing.
+-- `read access` is written, and with a path ` to ` and the name behind it.
 use mathlib.Core.Path.{ap}
-use borrow.Author.Needs.{needs}
 use native.Mathlib.Omega.{arith}
 use denote.Ref.{now}
-use lib.ListN.{length}
+use lib.ListN.{length, take}
+use lib.Seq.{length-take-le}
 use Rattle.calls.proofs.TextLaws.{writes-access, writes-name, length-shown}
+use borrow.Author.Needs.{needs}
 use Rattle.calls.proofs.texts.write_text.Statement.{statement}
 use Rattle.calls.proofs.texts.write_text.Tie as tie
 
@@ -12,7 +13,7 @@ slice-aggregate-append : tie.Need-slice-aggregate-append
 slice-aggregate-append c = search needs
 
 append-requires : tie.Need-append-requires
-append-requires c κs = search needs
+append-requires c κs = omega (arith, c .before .before .before .before .before .pre .room)
 
 enum-told : tie.Need-enum-told
 enum-told c = search needs
@@ -24,16 +25,16 @@ slice-aggregate-append-2 : tie.Need-slice-aggregate-append-2
 slice-aggregate-append-2 c = search needs
 
 append-requires-2 : tie.Need-append-requires-2
-append-requires-2 c κs = search needs
+append-requires-2 c κs = omega (arith, c .before .before .before .before .before .before .before .before .before .before .before .before .pre .room)
 
 display-name-requires : tie.Need-display-name-requires
-display-name-requires c κs = search needs
+display-name-requires c κs = c .before .before .before .before .before .before .before .before .before .before .before .before .before .before .before .before .pre .inside
 
 append-name-requires : tie.Need-append-name-requires
 append-name-requires c κs =
-    let p = c .before .before .before .before in
-    let s = p .before .before .before .before .before .before .before .before .before .before .before .before .before in
-    omega (arith, ap length (c .display-name .ensures), length-shown (now (s .args .given)) (now (s .args .resolved)) (s .pre .1) (s .pre .2))
+    let s = c .before .before .before .before .before .before .before .before .before .before .before .before .before .before .before .before .before in
+    let short = length-take-le (s .args .n) (now (s .args .resolved)) (s .pre .inside) in
+    omega (arith, ap length (c .display-name .ensures), s .pre .room, length-shown (now (s .args .given)) (take (s .args .n) (now (s .args .resolved))) (s .pre .brief (c .before .before .before .before .before .before .before .enum-told2 .given .1)) (omega (arith, short, s .pre .short)))
 
 same-length : tie.Need-same-length
 same-length c = search needs
@@ -46,15 +47,12 @@ same-length-2 c = search needs
 
 returns-2 : tie.Need-returns-2
 returns-2 c =
-    let named = c .before .before in
-    let shown = named .before in
-    let joined = shown .before .before .before .before in
+    let named = c .before .before .before in
+    let joined = named .before .before .before .before in
     let told = joined .before .before .before in
-    let said = told .before .before .before .before in
-    let s = said .before .before .before .before .before .before in
+    let begun = told .before .before .before .before in
     rw (told .enum-told2 .given .1)
-    (writes-name _ _ _ (s .pre .0) (shown .display-name .ensures)
-    (said .append .ensures) (joined .append2 .ensures) (named .append-name .ensures))
+    (writes-name _ _ _ (begun .before .before .before .before .before .before .pre .room) (named .display-name .ensures) (begun .append .ensures) (joined .append2 .ensures) (c .before .before .append-name .ensures))
 
 pub write-text-spec : {M : Type 1} → statement M
 write-text-spec =

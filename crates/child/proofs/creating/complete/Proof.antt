@@ -1,7 +1,7 @@
--- `complete` meets its contract, refused or done.
+-- `complete` meets its contract: a refusal leaves a fresh child, before and after what it takes over.
+use native.Mathlib.Omega.{arith}
 use Rattle.table.proofs.Puts.{long-of}
-use Rattle.child.proofs.TakeOverLaws.{takeOver-held}
-use Rattle.child.proofs.CreatingLaws.{completes-refused, completes-full, completes-done}
+use Rattle.child.proofs.TakeOverLaws.{stopped-before, stopped-after, went-through}
 use borrow.Author.Needs.{needs}
 use Rattle.child.proofs.creating.complete.Statement.{statement}
 use Rattle.child.proofs.creating.complete.Tie as tie
@@ -16,7 +16,9 @@ same-length : tie.Need-same-length
 same-length c = search needs
 
 returns : tie.Need-returns
-returns c = completes-refused _ _ _ (λ i. c .before .before .before .before .before .before .before .slice-known .given i .fits) (c .before .before .before .before .before .before .before .before .before .pre .1) (c .before .before .before .before .before .outcome .given .1) (c .before .before .give-up .ensures)
+returns c =
+    let up = c .before .before .give-up .ensures in
+    stopped-before _ (c .before .before .before .before .before .outcome .given .1) (up .0) (up .1)
 
 enum-told : tie.Need-enum-told
 enum-told c = search needs
@@ -28,7 +30,7 @@ enum-known-cause : tie.Need-enum-known-cause
 enum-known-cause c = search needs
 
 give-up-requires-2 : tie.Need-give-up-requires-2
-give-up-requires-2 c κs = long-of _ (takeOver-held _ _ _ 0 (c .before .before .before .before .before .before .before .before .before .before .before .before .pre .0) (c .before .before .before .before .before .before .before .before .before .before .before .before .pre .1) (c .before .before .before .before .before .before .take-over .ensures 0))
+give-up-requires-2 c κs = omega (arith, long-of _ (c .before .before .before .before .before .before .before .before .before .before .before .before .pre .1), c .before .before .before .before .before .before .take-over .kept)
 
 enum-told-2 : tie.Need-enum-told-2
 enum-told-2 c = search needs
@@ -40,13 +42,15 @@ same-length-2 : tie.Need-same-length-2
 same-length-2 c = search needs
 
 returns-2 : tie.Need-returns-2
-returns-2 c = completes-full _ _ _ (c .before .before .before .before .before .before .before .before .before .before .before .enum-told .given .1) (c .before .before .before .before .before .before .before .before .before .take-over .ensures) (c .before .before .before .before .before .cause .given .1) (c .before .before .give-up2 .ensures)
+returns-2 c =
+    let up = c .before .before .give-up2 .ensures in
+    stopped-after _ (c .before .before .before .before .before .before .before .before .before .before .before .enum-told .given .1) (c .before .before .before .before .before .before .before .before .before .take-over .ensures) (c .before .before .before .before .before .cause .given .1) (up .0) (up .1)
 
 same-length-3 : tie.Need-same-length-3
 same-length-3 c = search needs
 
 returns-3 : tie.Need-returns-3
-returns-3 c = completes-done _ _ _ (c .before .before .before .before .before .before .before .enum-told .given .1) (c .before .before .before .before .before .take-over .ensures) (c .before .enum-told2 .given .1) (c .done .ensures)
+returns-3 c = went-through _ (c .before .before .before .before .before .before .before .enum-told .given .1) (c .before .before .before .before .before .take-over .ensures) (c .before .enum-told2 .given .1) (c .done .ensures)
 
 pub complete-spec : {M : Type 1} → statement M
 complete-spec =

@@ -1,5 +1,5 @@
 -- `give_up` meets its contract.
-use Rattle.child.proofs.CreatingLaws.{fresh-left}
+use Rattle.table.proofs.CallLaws.{made-fresh}
 use borrow.Author.Needs.{needs}
 use Rattle.child.proofs.creating.give_up.Statement.{statement}
 use Rattle.child.proofs.creating.give_up.Tie as tie
@@ -14,7 +14,7 @@ same-length : tie.Need-same-length
 same-length c = search needs
 
 returns : tie.Need-returns
-returns c = (c .refused .ensures, fresh-left (c .before .before .before .before .before .before .pre) (c .before .before .before .make-fresh .ensures))
+returns c = (c .refused .ensures, made-fresh (c .before .before .before .before .before .before .pre) (c .before .before .before .make-fresh .ensures))
 
 pub give-up-spec : {M : Type 1} → statement M
 give-up-spec = tie.close (tie.spec make-fresh-requires refused-requires same-length returns)

@@ -1,22 +1,22 @@
--- `grant_items` meets its contract. The loop's invariant: what is still to do from the i-th item on gives the whole.
+-- `grant_items` meets its contract. The loop's invariant: whatever the items from i on make, the whole list makes.
 use Prim.Native.Nat.{_-_}
+use mathlib.Core.Path.{refl}
 use native.Mathlib.Omega.{arith}
 use lib.ListN.{length}
-use Rattle.child.proofs.GrantingLaws.{Going, going-start, going-item, going-refused, going-next, going-end}
+use Rattle.child.proofs.ArgumentLaws.{closing-next}
+use Rattle.child.proofs.ItemLaws.{Going, going-start, going-once, going-parent, going-child, going-stops, going-next, going-done}
 use borrow.Author.Needs.{needs}
 use Rattle.child.proofs.granting.grant_items.Statement.{statement}
 use Rattle.child.proofs.granting.grant_items.Tie as tie
 
 abbrev Inv-loop : tie.InvT-loop
-Inv-loop parent₀ child₀ bytes ends responses cwd asked₀ from₀ i₀ parent child asked from i = Going parent₀ child₀ bytes ends responses cwd parent child asked from i
+Inv-loop parent₀ child₀ bytes ends responses cwd asked₀ from₀ i₀ parent child asked from i = Going cwd bytes ends responses parent₀ child₀ parent child asked from i
 
 abbrev μ-loop : tie.MeasureT-loop
 μ-loop parent₀ child₀ bytes ends responses cwd asked₀ from₀ i₀ parent child asked from i = length ends - i
 
 loop-holds : tie.Need-loop-holds Inv-loop μ-loop
-loop-holds c =
-    let start = c .before .before .before .before .before .before in
-    going-start _ _ _ _ _ _ (λ i. c .before .before .before .before .before .slice-known .given i .fits) (λ i. c .before .before .before .before .slice-known2 .given i .fits) (start .pre .0) (start .pre .1 .0)
+loop-holds c = going-start _ _ _ _ _ _ (c .before .before .before .before .before .before .pre .0) (c .before .before .before .before .before .before .pre .1) (c .before .before .before .before .before .before .pre .2 .closes)
 
 mul-end : tie.Need-mul-end Inv-loop μ-loop
 mul-end c = search needs
@@ -28,24 +28,28 @@ cast-end : tie.Need-cast-end Inv-loop μ-loop
 cast-end c = omega (arith, c .shared-slice-known5 .given (c .before .before .loop .i))
 
 sub-grant-item : tie.Need-sub-grant-item Inv-loop μ-loop
-sub-grant-item c = let lies = going-item (c .before .before .before .before .loop .inv) (omega arith) in omega arith
+sub-grant-item c = let lies = closing-next _ _ _ _ (c .before .before .before .loop-test .taken) (c .before .before .before .before .loop .inv .closes) in omega arith
 
 part-grant-item-start : tie.Need-part-grant-item-start Inv-loop μ-loop
-part-grant-item-start c = let lies = going-item (c .before .before .before .before .loop .inv) (omega arith) in omega arith
+part-grant-item-start c = let lies = closing-next _ _ _ _ (c .before .before .before .loop-test .taken) (c .before .before .before .before .loop .inv .closes) in omega arith
 
 part-grant-item-end : tie.Need-part-grant-item-end Inv-loop μ-loop
-part-grant-item-end c = let lies = going-item (c .before .before .before .before .loop .inv) (omega arith) in omega arith
+part-grant-item-end c = let lies = closing-next _ _ _ _ (c .before .before .before .loop-test .taken) (c .before .before .before .before .loop .inv .closes) in omega arith
 
-mul-grant-item : tie.Need-mul-grant-item Inv-loop μ-loop
-mul-grant-item c = search needs
-
-shared-slice-read-grant-item : tie.Need-shared-slice-read-grant-item Inv-loop μ-loop
-shared-slice-read-grant-item c = search needs
+response-at-requires : tie.Need-response-at-requires Inv-loop μ-loop
+response-at-requires c κs =
+    let entry = c .before .before .before .before .before .before .before .before .before .before .before .before in
+    (entry .pre .2 .known, omega (arith, entry .pre .2 .many))
 
 grant-item-requires : tie.Need-grant-item-requires Inv-loop μ-loop
-grant-item-requires c κs =
-    let at = c .before .before .before .before .before .before .loop .inv in
-    (at .parent .holding, at .child .holding, omega arith)
+grant-item-requires c κs = (c .before .before .before .before .before .before .loop .inv .parent, c .before .before .before .before .before .before .loop .inv .child)
+
+add-asked : tie.Need-add-asked Inv-loop μ-loop
+add-asked c =
+    let granted = c .before .before .before .before .before in
+    let turn = granted .before .before .before .before .before .before in
+    let at = turn .before in
+    omega (arith, at .loop .inv .few, at .before .before .before .before .before .before .before .pre .2 .few, going-once (at .loop .inv) (turn .loop-test .taken) (omega (arith, at .before .before .before .before .before .before .before .pre .2 .many)) (granted .before .response-at .ensures) refl (granted .grant-item .ensures))
 
 enum-known-outcome : tie.Need-enum-known-outcome Inv-loop μ-loop
 enum-known-outcome c = search needs
@@ -54,15 +58,25 @@ refused-requires : tie.Need-refused-requires Inv-loop μ-loop
 refused-requires c κs = search needs
 
 same-length : tie.Need-same-length Inv-loop μ-loop
-same-length c = omega (arith, c .before .before .before .before .before .before .before .before .before .before .before .before .before .before .before .loop .inv .parent .same)
+same-length c =
+    let granted = c .before .before .before .before .before .before .before .before .before in
+    let turn = granted .before .before .before .before .before .before in
+    let at = turn .before in
+    going-parent (at .loop .inv) (turn .loop-test .taken) (omega (arith, at .before .before .before .before .before .before .before .pre .2 .many)) (granted .before .response-at .ensures) refl (granted .grant-item .ensures)
 
 same-length-2 : tie.Need-same-length-2 Inv-loop μ-loop
-same-length-2 c = omega (arith, c .before .before .before .before .before .before .before .before .before .before .before .before .before .before .before .loop .inv .child .same)
+same-length-2 c =
+    let granted = c .before .before .before .before .before .before .before .before .before in
+    let turn = granted .before .before .before .before .before .before in
+    let at = turn .before in
+    going-child (at .loop .inv) (turn .loop-test .taken) (omega (arith, at .before .before .before .before .before .before .before .pre .2 .many)) (granted .before .response-at .ensures) refl (granted .grant-item .ensures)
 
 returns : tie.Need-returns Inv-loop μ-loop
 returns c =
-    let at = c .before .before .before .before .before .before .before .before .before .before .before .before .before .before .before in
-    going-refused (at .loop .inv) (at .before .before .before .before .before .before .before .pre .1 .1) (omega arith) (c .before .before .before .before .before .before .before .before .grant-item .ensures) (c .before .before .outcome .given .1) (c .refused .ensures)
+    let granted = c .before .before .before .before .before .before .before .before .before in
+    let turn = granted .before .before .before .before .before .before in
+    let at = turn .before in
+    going-stops (at .loop .inv) (turn .loop-test .taken) (omega (arith, at .before .before .before .before .before .before .before .pre .2 .many)) (granted .before .response-at .ensures) refl (granted .grant-item .ensures) (c .before .before .outcome .given .1) refl (c .refused .ensures)
 
 enum-told : tie.Need-enum-told Inv-loop μ-loop
 enum-told c = search needs
@@ -75,20 +89,22 @@ loop-less c = search needs
 
 loop-again : tie.Need-loop-again Inv-loop μ-loop
 loop-again c =
-    let at = c .before .before .before .before .before .before .before .before .before .before .before .before .before in
-    going-next (at .loop .inv) (at .before .before .before .before .before .before .before .pre .1 .1) (omega arith) (c .before .before .before .before .before .before .grant-item .ensures) (c .enum-told .given .1)
+    let granted = c .before .before .before .before .before .before .before in
+    let turn = granted .before .before .before .before .before .before in
+    let at = turn .before in
+    going-next (at .loop .inv) (turn .loop-test .taken) (omega (arith, at .before .before .before .before .before .before .before .pre .2 .many)) (granted .before .response-at .ensures) refl (granted .grant-item .ensures) (c .enum-told .given .1) refl
 
 done-requires : tie.Need-done-requires Inv-loop μ-loop
 done-requires c κs = search needs
 
 same-length-3 : tie.Need-same-length-3 Inv-loop μ-loop
-same-length-3 c = c .before .before .loop .inv .parent .same
+same-length-3 c = c .before .before .loop .inv .same-parent
 
 same-length-4 : tie.Need-same-length-4 Inv-loop μ-loop
-same-length-4 c = c .before .before .loop .inv .child .same
+same-length-4 c = c .before .before .loop .inv .child-length
 
 returns-2 : tie.Need-returns-2 Inv-loop μ-loop
-returns-2 c = going-end (c .before .before .loop .inv) (omega arith) (c .done .ensures)
+returns-2 c = going-done (c .before .before .loop .inv) (c .before .loop-test .left) (c .done .ensures)
 
 pub grant-items-spec : {M : Type 1} → statement M
 grant-items-spec =
@@ -103,9 +119,9 @@ grant-items-spec =
     sub-grant-item
     part-grant-item-start
     part-grant-item-end
-    mul-grant-item
-    shared-slice-read-grant-item
+    response-at-requires
     grant-item-requires
+    add-asked
     enum-known-outcome
     refused-requires
     same-length

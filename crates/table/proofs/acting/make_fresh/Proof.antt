@@ -1,13 +1,13 @@
 -- `make_fresh` meets its contract: the four bytes of the head are those of a fresh table.
 use native.Mathlib.Omega.{arith}
 use lib.ListN.{length-set}
-use Rattle.table.proofs.CallLaws.{does-refuse, does-act, fresh-short, fresh-long, fresh-put}
+use Rattle.table.proofs.CallLaws.{makes-none, makes-fresh, fresh-put}
 use borrow.Author.Needs.{needs}
 use Rattle.table.proofs.acting.make_fresh.Statement.{statement}
 use Rattle.table.proofs.acting.make_fresh.Tie as tie
 
 returns : tie.Need-returns
-returns c = does-refuse _ _ _ (fresh-short _ (omega arith))
+returns c = makes-none (omega arith)
 
 slice-write-mem : tie.Need-slice-write-mem
 slice-write-mem c = search needs
@@ -25,7 +25,7 @@ same-length : tie.Need-same-length
 same-length c = search needs
 
 returns-2 : tie.Need-returns-2
-returns-2 c = does-act _ _ _ _ (fresh-long _ (omega arith)) (fresh-put _ (omega arith))
+returns-2 c = makes-fresh (omega arith) (fresh-put _ (omega arith))
 
 pub make-fresh-spec : {M : Type 1} → statement M
 make-fresh-spec =

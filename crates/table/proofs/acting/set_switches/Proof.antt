@@ -1,9 +1,11 @@
--- `set_switches` meets its contract: a table and a known value are tested, and then the switches are set.
+-- `set_switches` meets its contract: a table and a known value are tested, and then the act is carried out.
+use borrow.Author.Needs.{needs}
 use mathlib.Core.Path.{sym, _∙_}
 use native.Mathlib.Omega.{arith}
-use borrow.Author.Tests.{not-true, not-false}
-use Rattle.table.proofs.CallLaws.{does-refuse, does-act, switches-no-table, switches-unknown, switches-free}
-use borrow.Author.Needs.{needs}
+use borrow.Author.Tests.{not-true, not-false, le-leb}
+use Rattle.table.specs.Acts.{isAct}
+use Rattle.table.specs.Carrying.{actOf, fits}
+use Rattle.table.proofs.CallLaws.{does-refuse, does-carry, switches-no-table, switches-unknown, switches-known}
 use Rattle.table.proofs.acting.set_switches.Statement.{statement}
 use Rattle.table.proofs.acting.set_switches.Tie as tie
 
@@ -14,25 +16,34 @@ same-length : tie.Need-same-length
 same-length c = search needs
 
 returns : tie.Need-returns
-returns c = does-refuse _ _ _ (switches-no-table _ _ (sym (c .before .holds-table .ensures) ∙ not-true _ (c .if1 .taken)))
+returns c = does-refuse (switches-no-table _ _ _ (sym (c .before .holds-table .ensures) ∙ not-true _ (c .if1 .taken)))
+
+cast-if2 : tie.Need-cast-if2
+cast-if2 c = search needs
 
 same-length-2 : tie.Need-same-length-2
 same-length-2 c = search needs
 
 returns-2 : tie.Need-returns-2
-returns-2 c = does-refuse _ _ _ (switches-unknown _ _ (sym (c .before .before .holds-table .ensures) ∙ not-false _ (c .before .if1 .left)) (omega arith))
+returns-2 c = does-refuse (switches-unknown _ _ _ (sym (c .before .before .holds-table .ensures) ∙ not-false _ (c .before .if1 .left)) (omega arith))
 
-cast-set-switches-byte : tie.Need-cast-set-switches-byte
-cast-set-switches-byte c = search needs
+cast-t14 : tie.Need-cast-t14
+cast-t14 c = search needs
 
-set-switches-byte-requires : tie.Need-set-switches-byte-requires
-set-switches-byte-requires c κs = ((sym (c .before .before .before .holds-table .ensures) ∙ not-false _ (c .before .before .if1 .left)), omega arith)
+slice-aggregate-carry-out : tie.Need-slice-aggregate-carry-out
+slice-aggregate-carry-out c = search needs
+
+carry-out-requires : tie.Need-carry-out-requires
+unfolding actOf fits isAct
+carry-out-requires c κs = (sym (c .before .before .before .before .holds-table .ensures) ∙ not-false _ (c .before .before .before .if1 .left), le-leb (c .before .before .before .before .before .before .before .args .switches) _ (omega arith))
 
 same-length-3 : tie.Need-same-length-3
 same-length-3 c = search needs
 
 returns-3 : tie.Need-returns-3
-returns-3 c = does-act _ _ _ _ (switches-free _ _ (sym (c .before .before .before .before .before .before .holds-table .ensures) ∙ not-false _ (c .before .before .before .before .before .if1 .left)) (omega arith)) (c .before .before .set-switches-byte .ensures)
+unfolding actOf
+returns-3 c =
+    does-carry (switches-known _ _ _ (sym (c .before .before .before .before .before .before .before .holds-table .ensures) ∙ not-false _ (c .before .before .before .before .before .before .if1 .left)) (omega arith)) (c .before .before .carry-out .ensures)
 
 pub set-switches-spec : {M : Type 1} → statement M
 set-switches-spec =
@@ -41,9 +52,11 @@ set-switches-spec =
     holds-table-requires
     same-length
     returns
+    cast-if2
     same-length-2
     returns-2
-    cast-set-switches-byte
-    set-switches-byte-requires
+    cast-t14
+    slice-aggregate-carry-out
+    carry-out-requires
     same-length-3
     returns-3)

@@ -1,6 +1,7 @@
 -- `compare` meets its contract, by whether the two kinds grant; the turned-round question is negated.
 use mathlib.Core.Path.{sym, ap, subst, _∙_}
 use lib.IntN.{negℤ}
+use mir.Syntax.{w8}
 use Rattle.table.proofs.ComparisonLaws.{compare-by, Sign, granted-sign, negative-fits, negative-is, read-back}
 use borrow.Author.Needs.{needs}
 use Rattle.table.proofs.comparing.compare.Statement.{statement}
@@ -17,7 +18,7 @@ compare-alike-requires c κs = search needs
 
 returns : tie.Need-returns
 returns c =
-    read-back _ (c .compare-alike .ok) ∙ c .compare-alike .ensures
+    read-back w8 _ (c .compare-alike .ok) ∙ c .compare-alike .ensures
     ∙ sym (compare-by _ _ (sym (c .before .before .before .before .is-granted .ensures) ∙ c .before .before .before .if1 .taken) (sym (c .before .before .is-granted2 .ensures) ∙ c .before .if2 .taken))
 
 compare-granted-requires : tie.Need-compare-granted-requires
@@ -25,7 +26,7 @@ compare-granted-requires c κs = search needs
 
 returns-2 : tie.Need-returns-2
 returns-2 c =
-    read-back _ (c .compare-granted .ok) ∙ c .compare-granted .ensures
+    read-back w8 _ (c .compare-granted .ok) ∙ c .compare-granted .ensures
     ∙ sym (compare-by _ _ (sym (c .before .before .before .before .is-granted .ensures) ∙ c .before .before .before .if1 .taken) (sym (c .before .before .is-granted2 .ensures) ∙ c .before .if2 .left))
 
 is-granted-requires-3 : tie.Need-is-granted-requires-3
@@ -47,7 +48,7 @@ compare-alike-requires-2 c κs = search needs
 
 returns-4 : tie.Need-returns-4
 returns-4 c =
-    read-back _ (c .compare-alike2 .ok) ∙ c .compare-alike2 .ensures
+    read-back w8 _ (c .compare-alike2 .ok) ∙ c .compare-alike2 .ensures
     ∙ sym (compare-by _ _ (sym (c .before .before .before .before .is-granted .ensures) ∙ c .before .before .before .if1 .left) (sym (c .before .before .is-granted3 .ensures) ∙ c .before .if3 .left))
 
 pub compare-spec : {M : Type 1} → statement M

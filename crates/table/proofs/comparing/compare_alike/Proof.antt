@@ -1,5 +1,6 @@
 -- `compare_alike` meets its contract: each answer of `relate` gives the order, and equal paths go by the kinds' precedence.
 use mathlib.Core.Path.{sym, ap₂, _∙_}
+use mir.Syntax.{w8}
 use Rattle.paths.specs.Relations.{numberOrder}
 use Rattle.paths.proofs.RelationLaws.{relation-equal, relation-prefix, relation-extension, relation-less, relation-greater}
 use Rattle.table.proofs.ComparisonLaws.{alike-said, read-back}
@@ -36,7 +37,7 @@ enum-told-5 c = search needs
 
 returns : tie.Need-returns
 returns c =
-    read-back _ (c .number-order .ok) ∙ c .number-order .ensures ∙ ap₂ numberOrder (c .before .before .kind-precedence .ensures) (c .before .kind-precedence2 .ensures)
+    read-back w8 _ (c .number-order .ok) ∙ c .number-order .ensures ∙ ap₂ numberOrder (c .before .before .kind-precedence .ensures) (c .before .kind-precedence2 .ensures)
     ∙ sym (alike-said _ _ (relation-equal _ _ (sym (c .before .before .before .before .before .relate .ensures) ∙ c .before .before .before .enum-told .given .1)))
 
 returns-2 : tie.Need-returns-2

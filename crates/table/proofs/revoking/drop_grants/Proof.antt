@@ -4,7 +4,7 @@ use mathlib.Core.Path.{ap}
 use native.Mathlib.Omega.{arith}
 use borrow.Author.Needs.{needs}
 use lib.ListN.{length}
-use Rattle.table.specs.Acts.{droppedBy}
+use Rattle.table.specs.Changing.{droppedBy}
 use Rattle.table.specs.Memory.{nextAt}
 use Rattle.table.proofs.Within.{held}
 use Rattle.table.proofs.RevokeLaws.{Kept, kept-start, next-inside, kept-skip, kept-move, kept-end}

@@ -12,13 +12,13 @@ slice-aggregate-drop-grants c = search needs
 drop-grants-requires : tie.Need-drop-grants-requires
 drop-grants-requires c κs = search needs
 
-slice-read-without-granted : tie.Need-slice-read-without-granted
-slice-read-without-granted c =
+slice-read-clear-bit : tie.Need-slice-read-clear-bit
+slice-read-clear-bit c =
     let d = c .before .before .before in
     omega (arith, held _ (d .before .before .before .before .pre) .long, d .drop-grants .kept .0)
 
-without-granted-requires : tie.Need-without-granted-requires
-without-granted-requires c κs = search needs
+clear-bit-requires : tie.Need-clear-bit-requires
+clear-bit-requires c κs = search needs
 
 write-switches-requires : tie.Need-write-switches-requires
 write-switches-requires c κs =
@@ -32,7 +32,7 @@ returns : tie.Need-returns
 returns c =
     let w = c .before .before in
     let g = w .before .before in
-    revoke-all-law _ _ _ _ _ (g .before .before .before .before .drop-grants .ensures) (g .without-granted .ensures) (w .write-switches .ensures)
+    revoke-all-law _ _ _ _ _ (g .before .before .before .before .drop-grants .ensures) (g .clear-bit .ensures) (w .write-switches .ensures)
 
 pub revoke-grants-spec : {M : Type 1} → statement M
 revoke-grants-spec =
@@ -40,8 +40,8 @@ revoke-grants-spec =
     (tie.spec
     slice-aggregate-drop-grants
     drop-grants-requires
-    slice-read-without-granted
-    without-granted-requires
+    slice-read-clear-bit
+    clear-bit-requires
     write-switches-requires
     same-length
     returns)

@@ -1,16 +1,17 @@
--- `show_entries` meets its contract. The loop's invariant: what is left lies within the memory.
+-- `show_entries` meets its contract. The loop's invariant: the cursor stands in the list.
+use mathlib.Core.Path.{sym, _∙_}
+use lib.ListN.{length}
+use Rattle.table.specs.Reading.{entriesFrom, InList}
+use Rattle.table.proofs.ReadingLaws.{first-in, fewer-left, next-in}
 use borrow.Author.Needs.{needs}
-use native.Mathlib.Omega.{arith}
-use Rattle.table.proofs.Within.{held, Rest, rest-start, rest-here, rest-next, rest-take}
-use Rattle.table.specs.Memory.{offsetAt}
 use Rattle.table_cases.proofs.showing.show_entries.Statement.{statement}
 use Rattle.table_cases.proofs.showing.show_entries.Tie as tie
 
 abbrev Inv-loop : tie.InvT-loop
-Inv-loop mem left₀ at₀ t5 left at = Rest mem left at
+Inv-loop mem cursor₀ t4 cursor = InList mem cursor
 
 abbrev μ-loop : tie.MeasureT-loop
-μ-loop mem left₀ at₀ t5 left at = left
+μ-loop mem cursor₀ t4 cursor = length (entriesFrom mem cursor)
 
 slice-aggregate-say : tie.Need-slice-aggregate-say Inv-loop μ-loop
 slice-aggregate-say c = search needs
@@ -18,28 +19,25 @@ slice-aggregate-say c = search needs
 say-requires : tie.Need-say-requires Inv-loop μ-loop
 say-requires c κs = search needs
 
-word-at-requires : tie.Need-word-at-requires Inv-loop μ-loop
-word-at-requires c κs = omega (arith, held _ (c .before .before .before .pre) .long)
+first-requires : tie.Need-first-requires Inv-loop μ-loop
+first-requires c κs = search needs
 
 loop-holds : tie.Need-loop-holds Inv-loop μ-loop
-loop-holds c = rw (c .word-at .ensures .0) (rest-start _ (c .before .before .before .before .pre))
+loop-holds c = rw (c .first .ensures) (first-in _ (c .before .before .before .before .pre))
+
+is-at-entry-requires : tie.Need-is-at-entry-requires Inv-loop μ-loop
+is-at-entry-requires c κs = search needs
 
 show-entry-requires : tie.Need-show-entry-requires Inv-loop μ-loop
-show-entry-requires c κs = rest-here (c .loop-test .taken) (c .before .loop .inv) .inside
-
-hop-requires : tie.Need-hop-requires Inv-loop μ-loop
-hop-requires c κs = rest-take _ 1 _ _ (c .before .loop-test .taken) (c .before .before .loop .inv) .within
-
-sub-left : tie.Need-sub-left Inv-loop μ-loop
-sub-left c = search needs
+show-entry-requires c κs = record { rest = c .before .before .loop .inv; more = sym (c .before .is-at-entry .ensures) ∙ c .if1 .taken }
 
 loop-less : tie.Need-loop-less Inv-loop μ-loop
-loop-less c = search needs
+loop-less c = rw (c .show-entry .ensures) (fewer-left _ _ (sym (c .before .before .is-at-entry .ensures) ∙ c .before .if1 .taken))
 
 loop-again : tie.Need-loop-again Inv-loop μ-loop
-unfolding offsetAt
 loop-again c =
-    rw (c .hop .ensures) (rest-next (c .before .before .loop-test .taken) (c .before .before .before .loop .inv))
+    rw (c .show-entry .ensures)
+    (next-in (record { rest = c .before .before .before .loop .inv; more = sym (c .before .before .is-at-entry .ensures) ∙ c .before .if1 .taken }))
 
 slice-aggregate-say-2 : tie.Need-slice-aggregate-say-2 Inv-loop μ-loop
 slice-aggregate-say-2 c = search needs
@@ -58,11 +56,10 @@ show-entries-spec =
     μ-loop
     slice-aggregate-say
     say-requires
-    word-at-requires
+    first-requires
     loop-holds
+    is-at-entry-requires
     show-entry-requires
-    hop-requires
-    sub-left
     loop-less
     loop-again
     slice-aggregate-say-2

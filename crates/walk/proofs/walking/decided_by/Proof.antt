@@ -1,6 +1,7 @@
 -- `decided_by` meets its contract, kind by kind.
 use borrow.Author.Needs.{needs}
-use Rattle.walk.specs.Walk.{queryOf, decidedBy}
+use Rattle.paths.specs.Giving.{queryOf}
+use Rattle.walk.specs.Walk.{decidedBy}
 use Rattle.walk.proofs.walking.decided_by.Statement.{statement}
 use Rattle.walk.proofs.walking.decided_by.Tie as tie
 

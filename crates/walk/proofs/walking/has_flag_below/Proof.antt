@@ -1,58 +1,64 @@
--- `has_flag_below` meets its contract. The loop's invariant: some D or I has prefix q if one of the entries from `at` on does.
-use mathlib.Core.Path.{_≡_, refl, sym, _∙_}
-use native.Mathlib.Omega.{arith}
-use borrow.Author.Needs.{needs}
+-- `has_flag_below` meets its contract. The loop's invariant: some D or I has prefix q if one of the entries from the cursor on does.
+use mathlib.Core.Path.{_≡_, sym, ap, _∙_}
+use lib.ListN.{length}
+use Rattle.paths.specs.Giving.{path}
 use Rattle.table.specs.Tables.{any}
-use Rattle.table.specs.Memory.{entriesAt, tableOf}
-use Rattle.table.proofs.Within.{held, Rest, rest-start, rest-here, rest-next}
-use Rattle.walk.specs.Walk.{path, isPartial}
-use Rattle.walk.proofs.WalkLaws.{flagBelow, any-hit, any-miss, any-none}
+use Rattle.table.specs.Memory.{tableOf}
+use Rattle.table.specs.Reading.{entriesFrom, InList}
+use Rattle.table.proofs.ReadingLaws.{first-in, first-from, fewer-left, next-in}
+use Rattle.walk.specs.Walk.{isFlagBelow, isPartial}
+use Rattle.walk.proofs.WalkLaws.{flag-hit, flag-miss, flag-none}
+use borrow.Author.Needs.{needs}
 use Rattle.walk.proofs.walking.has_flag_below.Statement.{statement}
 use Rattle.walk.proofs.walking.has_flag_below.Tie as tie
 
 abbrev Inv-loop : tie.InvT-loop
-Inv-loop mem q left₀ at₀ left at = Rest mem left at × (isPartial (tableOf mem) (path q) ≡ any (flagBelow q) (entriesAt mem left at))
+Inv-loop mem q cursor₀ cursor = InList mem cursor × (isPartial (tableOf mem) (path q) ≡ any (isFlagBelow q) (entriesFrom mem cursor))
 
 abbrev μ-loop : tie.MeasureT-loop
-μ-loop mem q left₀ at₀ left at = left
+μ-loop mem q cursor₀ cursor = length (entriesFrom mem cursor)
 
-word-at-requires : tie.Need-word-at-requires Inv-loop μ-loop
-word-at-requires c κs = omega (arith, held _ (c .before .before .pre) .long)
+first-requires : tie.Need-first-requires Inv-loop μ-loop
+first-requires c κs = search needs
 
 loop-holds : tie.Need-loop-holds Inv-loop μ-loop
-unfolding isPartial tableOf
-loop-holds c = rw (c .word-at .ensures .0) (rest-start _ (c .before .before .before .pre), refl)
+unfolding isPartial
+loop-holds c = rw (c .first .ensures) (first-in _ (c .before .before .before .pre), ap (any (isFlagBelow _)) (sym (first-from _)))
+
+is-at-entry-requires : tie.Need-is-at-entry-requires Inv-loop μ-loop
+is-at-entry-requires c κs = search needs
 
 is-flag-below-requires : tie.Need-is-flag-below-requires Inv-loop μ-loop
-is-flag-below-requires c κs = rest-here (c .loop-test .taken) (c .before .loop .inv .0) .inside
+is-flag-below-requires c κs = record { rest = c .before .before .loop .inv .0; more = sym (c .before .is-at-entry .ensures) ∙ c .if1 .taken }
 
 returns : tie.Need-returns Inv-loop μ-loop
 returns c =
     let turn = c .before .before in
-    sym (turn .before .loop .inv .1 ∙ any-hit _ _ (turn .loop-test .taken) _ (flagBelow _) (sym (c .before .is-flag-below .ensures) ∙ c .if1 .taken))
+    let more = sym (turn .before .is-at-entry .ensures) ∙ turn .if1 .taken in
+    sym (turn .before .before .loop .inv .1 ∙ flag-hit _ _ more _ (sym (c .before .is-flag-below .ensures) ∙ c .if2 .taken))
 
-next-at-requires : tie.Need-next-at-requires Inv-loop μ-loop
-next-at-requires c κs =
+advance-requires : tie.Need-advance-requires Inv-loop μ-loop
+advance-requires c κs =
     let turn = c .before .before in
-    rest-here (turn .loop-test .taken) (turn .before .loop .inv .0) .inside
-
-sub-left : tie.Need-sub-left Inv-loop μ-loop
-sub-left c = search needs
+    record { rest = turn .before .before .loop .inv .0; more = sym (turn .before .is-at-entry .ensures) ∙ turn .if1 .taken }
 
 loop-less : tie.Need-loop-less Inv-loop μ-loop
-loop-less c = search needs
+loop-less c =
+    let turn = c .before .before .before in
+    rw (c .advance .ensures) (fewer-left _ _ (sym (turn .before .is-at-entry .ensures) ∙ turn .if1 .taken))
 
 loop-again : tie.Need-loop-again Inv-loop μ-loop
 loop-again c =
     let turn = c .before .before .before in
-    let l = turn .before .loop in
-    rw (c .next-at .ensures) (
-      rest-next (turn .loop-test .taken) (l .inv .0),
-      l .inv .1 ∙ any-miss _ _ (turn .loop-test .taken) _ (flagBelow _) (sym (c .before .before .is-flag-below .ensures) ∙ c .before .if1 .left),
+    let inv = turn .before .before .loop .inv in
+    let more = sym (turn .before .is-at-entry .ensures) ∙ turn .if1 .taken in
+    rw (c .advance .ensures) (
+      next-in (record { rest = inv .0; more = more }),
+      inv .1 ∙ flag-miss _ _ more _ (sym (c .before .before .is-flag-below .ensures) ∙ c .before .if2 .left),
     )
 
 returns-2 : tie.Need-returns-2 Inv-loop μ-loop
-returns-2 c = sym (c .before .loop .inv .1 ∙ any-none _ _ _ (c .loop-test .left) (flagBelow _))
+returns-2 c = sym (c .before .before .loop .inv .1 ∙ flag-none _ _ (sym (c .before .is-at-entry .ensures) ∙ c .if1 .left) _)
 
 pub has-flag-below-spec : {M : Type 1} → statement M
 has-flag-below-spec =
@@ -60,12 +66,12 @@ has-flag-below-spec =
     (tie.spec
     Inv-loop
     μ-loop
-    word-at-requires
+    first-requires
     loop-holds
+    is-at-entry-requires
     is-flag-below-requires
     returns
-    next-at-requires
-    sub-left
+    advance-requires
     loop-less
     loop-again
     returns-2)

@@ -1,11 +1,8 @@
 -- `is_allow_all` meets its contract: each answer by the tests on the way to it.
 use mathlib.Core.Path.{sym, _∙_}
-use native.Mathlib.Omega.{arith}
 use borrow.Author.Tests.{not-true, not-false}
-use borrow.Author.Needs.{needs}
-use Rattle.table.specs.Memory.{tableOf}
-use Rattle.table.proofs.Within.{held}
 use Rattle.walk.specs.Walk.{isAllowAll}
+use borrow.Author.Needs.{needs}
 use Rattle.walk.proofs.walking.is_allow_all.Statement.{statement}
 use Rattle.walk.proofs.walking.is_allow_all.Tie as tie
 
@@ -58,13 +55,11 @@ returns-4 c =
       sym (c .before .has-switch4 .ensures) ∙ c .if4 .taken,
     )
 
-shared-slice-read-result : tie.Need-shared-slice-read-result
-shared-slice-read-result c =
-    let denied = c .before .before .before .before .before in
-    omega (arith, held _ (denied .before .before .before .before .before .pre) .long)
+marks-requires : tie.Need-marks-requires
+marks-requires c κs = search needs
 
 returns-5 : tie.Need-returns-5
-unfolding isAllowAll tableOf
+unfolding isAllowAll
 returns-5 c =
     let prompted = c .before in
     let ignored = prompted .before .before in
@@ -75,6 +70,7 @@ returns-5 c =
       sym (denied .before .has-switch2 .ensures) ∙ denied .if2 .left,
       sym (ignored .before .has-switch3 .ensures) ∙ ignored .if3 .left,
       sym (prompted .before .has-switch4 .ensures) ∙ prompted .if4 .left,
+      sym (c .marks .ensures .0),
     )
 
 pub is-allow-all-spec : {M : Type 1} → statement M
@@ -89,5 +85,5 @@ is-allow-all-spec =
     returns-3
     has-switch-requires-4
     returns-4
-    shared-slice-read-result
+    marks-requires
     returns-5)

@@ -1,7 +1,8 @@
 -- `is_denied` meets its contract: switch 2 with and without a path, and with none switch 8 or mark 2.
 use mathlib.Core.Path.{sym, _∙_}
 use borrow.Author.Needs.{needs}
-use Rattle.walk.specs.Walk.{queryOf, isDenied}
+use Rattle.paths.specs.Giving.{queryOf}
+use Rattle.walk.specs.Walk.{isDenied}
 use Rattle.walk.proofs.WalkLaws.{denied-flag}
 use Rattle.walk.proofs.walking.is_denied.Statement.{statement}
 use Rattle.walk.proofs.walking.is_denied.Tie as tie

@@ -1,7 +1,8 @@
 -- `is_partial_flag_denied` meets its contract: with no path by two marks, with one by the entries.
 use mathlib.Core.Path.{sym, _∙_}
 use borrow.Author.Needs.{needs}
-use Rattle.walk.specs.Walk.{queryOf, isPartial}
+use Rattle.paths.specs.Giving.{queryOf}
+use Rattle.walk.specs.Walk.{isPartial}
 use Rattle.walk.proofs.walking.is_partial_flag_denied.Statement.{statement}
 use Rattle.walk.proofs.walking.is_partial_flag_denied.Tie as tie
 

@@ -1,22 +1,22 @@
 -- `mode_of` meets its contract, number by number.
-use mathlib.Core.Path.{sym, ap}
+use mathlib.Core.Path.{sym}
 use native.Mathlib.Omega.{arith}
-use Rattle.walk.specs.Walk.{modeOf, readAs, modeRead}
+use Rattle.walk.specs.Walk.{modeOf}
 use Rattle.walk.proofs.WalkLaws.{mode-unknown}
 use Rattle.walk.proofs.walking.mode_of.Statement.{statement}
 use Rattle.walk.proofs.walking.mode_of.Tie as tie
 
 returns : tie.Need-returns
-unfolding modeRead readAs modeOf
-returns c = sym (ap modeRead (c .match .keys1))
+unfolding modeOf
+returns c = rw (c .match .keys1)
 
 returns-2 : tie.Need-returns-2
-unfolding modeRead readAs modeOf
-returns-2 c = sym (ap modeRead (c .match .keys2))
+unfolding modeOf
+returns-2 c = rw (c .match .keys2)
 
 returns-3 : tie.Need-returns-3
-unfolding modeRead readAs modeOf
-returns-3 c = sym (ap modeRead (c .match .keys3))
+unfolding modeOf
+returns-3 c = rw (c .match .keys3)
 
 returns-4 : tie.Need-returns-4
 returns-4 c = sym (mode-unknown _ (omega arith))

@@ -1,7 +1,8 @@
 -- `query_desc` meets its contract: the exact match answers, and else the state without a match.
 use mathlib.Core.Path.{sym, _∙_}
 use borrow.Author.Needs.{needs}
-use Rattle.walk.specs.Walk.{queryOf, queryDesc}
+use Rattle.paths.specs.Giving.{queryOf}
+use Rattle.walk.specs.Walk.{queryDesc}
 use Rattle.walk.proofs.WalkLaws.{query-decided, query-undecided}
 use Rattle.walk.proofs.walking.query_desc.Statement.{statement}
 use Rattle.walk.proofs.walking.query_desc.Tie as tie

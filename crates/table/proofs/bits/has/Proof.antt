@@ -1,0 +1,16 @@
+-- `has` meets its contract: what it computes is the definition.
+use mathlib.Core.Path.{refl}
+use Rattle.table.specs.Tables.{has}
+use borrow.Author.Needs.{needs}
+use Rattle.table.proofs.bits.has.Statement.{statement}
+use Rattle.table.proofs.bits.has.Tie as tie
+
+div-result : tie.Need-div-result
+div-result c = search needs
+
+returns : tie.Need-returns
+unfolding has
+returns c = refl
+
+pub has-spec : {M : Type 1} → statement M
+has-spec = tie.close (tie.spec div-result returns)

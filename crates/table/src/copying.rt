@@ -1,0 +1,19 @@
+// Copying a table to other memory.
+use crate::reading::entry_offset;
+use crate::reading::word_at;
+use paths::copying::copy_in;
+ghost use mathlib.Core.Path.{_≡_};
+ghost use mathlib.Core.Bool.{true};
+ghost use Prim.Native.Nat.{_≤_};
+ghost use lib.ListN.{length};
+ghost use Rattle.table.specs.Memory.{tableBytes, tableOf, holds, put};
+
+// Writes the table of one memory into another that is large enough.
+pub fn copy_table(from: &[u8], to: &mut [u8])
+    requires { ⌜ (holds (now from) ≡ true) × (tableBytes ≤ length (now to)) ⌝ }
+    ensures { λ _. ⌜ now (to .exit) ≡ put (tableOf (now (from .entry))) (now (to .entry)) ⌝ }
+{
+    let count = word_at(from, 0);
+    let end = entry_offset(from, count);
+    copy_in(to, 0, &from[0..end]);
+}

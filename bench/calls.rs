@@ -64,11 +64,11 @@ unsafe extern "C" {
     ) -> i32;
     fn permissions_check(
         memory: *mut u8, size: usize, path: *const u8, path_size: usize, cwd: *const u8, cwd_size: usize, answer: u32,
-        text: *mut u8, text_size: usize,
+        text: *mut u8, text_space: usize, asked: *mut u32, text_size: *mut usize,
     ) -> i32;
     fn permissions_request(
         memory: *mut u8, size: usize, path: *const u8, path_size: usize, cwd: *const u8, cwd_size: usize, answer: u32,
-        text: *mut u8, text_size: usize,
+        text: *mut u8, text_space: usize, asked: *mut u32, text_size: *mut usize,
     ) -> i32;
 }
 
@@ -104,24 +104,24 @@ impl Memory {
 
     fn check(&mut self, path: &str) -> i32 {
         let cwd = b"/";
-        let result = unsafe {
+        let (mut asked, mut size) = (0, 0);
+        unsafe {
             permissions_check(
                 self.table.as_mut_ptr(), self.table.len(), path.as_ptr(), path.len(), cwd.as_ptr(), cwd.len(), 0,
-                self.text.as_mut_ptr(), self.text.len(),
+                self.text.as_mut_ptr(), self.text.len(), &mut asked, &mut size,
             )
-        };
-        if result < 0 { result } else { result % 16 }
+        }
     }
 
     fn request(&mut self, path: &str) -> i32 {
         let cwd = b"/";
-        let result = unsafe {
+        let (mut asked, mut size) = (0, 0);
+        unsafe {
             permissions_request(
                 self.table.as_mut_ptr(), self.table.len(), path.as_ptr(), path.len(), cwd.as_ptr(), cwd.len(), 0,
-                self.text.as_mut_ptr(), self.text.len(),
+                self.text.as_mut_ptr(), self.text.len(), &mut asked, &mut size,
             )
-        };
-        if result < 0 { result } else { result % 16 }
+        }
     }
 }
 

@@ -1,25 +1,42 @@
 /* Read permission lists, for the controller's C program.
  *
  * A table is a list of entries with switches and marks, in memory that the
- * program lends with each call. Nothing is allocated or kept between calls:
- * the memory is the whole state. It may be copied as bytes, and it belongs to
- * the program before and after each call.
+ * program lends with each call. The memory is the whole state: it may be copied
+ * as bytes, and it belongs to the program before and after each call.
  *
- * Link with libcontroller.a (rt staticlib controller).
+ * Link with libpermissions.a, built for x86-64 Linux (System V calling
+ * convention, 64-bit pointers and sizes).
  *
- * Lending. Each area is a pointer and its size in bytes. A pointer must not be
- * NULL, also where the size is 0, and must give that many readable bytes (and
- * writable ones for a table that a call may change) for the time of the call.
- * The areas of one call must not overlap. Contents may be anything: whatever is
- * wrong with them ends the call with a refusal.
+ * Lending. An area is a pointer and its size, in bytes or, for numbers, in
+ * elements. It must have that many readable elements, and writable ones if the
+ * pointer is not const, for the time of the call. With size 0 nothing is read
+ * through the pointer, and it may be NULL. Areas that are only read may overlap;
+ * an area that is written must overlap no other one of the same call. Contents
+ * may be anything. A lent number (uint32_t *asked, size_t *text_size) must not be
+ * NULL and is written by every call, by a refused one too (0 there, but for the
+ * child call's count).
  *
- * Results. 0 or more is the call's answer. A negative result -n is refusal n;
- * then nothing has changed. Each refusal comes in exactly its condition, when
- * the earlier ones that apply do not hold.
+ * Results. A negative result -n is refusal n (enum permissions_refusal). Each
+ * refusal comes in exactly its condition, when the earlier ones that apply do not
+ * hold. A refused call changes no byte of any area, but for what the child call
+ * names. 0 from a check means that the path may be read, and no other result
+ * does: `if (permissions_check(..) != 0) deny();` is right and complete.
  *
- * Paths are bytes, not terminated by a zero. A path that does not begin with
- * '/' is joined to the working directory; "." and empty components vanish, and
- * ".." drops the last one.
+ * Paths are bytes, not ended by a zero byte. A path that does not begin with '/'
+ * is joined to the working directory; "." and empty components vanish, and ".."
+ * drops the last one. For an absolute path the directory is not looked at: NULL
+ * and 0 will do.
+ *
+ * Damage. Memory that holds no table is refused by 1. A table has no checksum: a
+ * flipped bit can give another table that is well formed, and memory of zero
+ * bytes is a fresh table. Whoever stores a table keeps its length
+ * (permissions_used) and a checksum beside it.
+ *
+ * Properties. No state outside the areas, no allocation, no system call, no
+ * locale, no signal: reentrant. Calls on different tables may run at once, and so
+ * may calls that only read one table. Areas of bytes have any alignment. Each call
+ * ends after work that its arguments bound. Stack: at most PERMISSIONS_STACK_BYTES.
+ * From libc: memcpy and memset.
  */
 #ifndef PERMISSIONS_H
 #define PERMISSIONS_H
@@ -31,23 +48,39 @@
 extern "C" {
 #endif
 
+#define PERMISSIONS_VERSION_MAJOR 0
+#define PERMISSIONS_VERSION_MINOR 2
+#define PERMISSIONS_VERSION_PATCH 0
+#define PERMISSIONS_VERSION "0.2.0"
+
+/* The compiler warns where the result of a call is dropped, if it can. */
+#if defined(__GNUC__)
+#define PERMISSIONS_MUST_USE __attribute__((warn_unused_result))
+#else
+#define PERMISSIONS_MUST_USE
+#endif
+
 /* The size of a table's memory. More may be lent, and is left alone. */
 #define PERMISSIONS_TABLE_BYTES 33540u
+
+/* The size of the space for a text. More may be lent, and is left alone. */
+#define PERMISSIONS_TEXT_BYTES 1041u
 
 /* Limits. */
 #define PERMISSIONS_MAX_ENTRIES 256u
 #define PERMISSIONS_MAX_PATH_BYTES 1024u      /* of a path, as given or resolved, and of a working directory */
 #define PERMISSIONS_MAX_PATH_SUM_BYTES 32768u /* of all paths in a table */
+#define PERMISSIONS_MAX_ITEMS 64u             /* of a child list */
 
-/* The size of the space for a check's text. More may be lent, and is left alone. */
-#define PERMISSIONS_TEXT_BYTES 1041u
+/* The stack that a call takes at most. */
+#define PERMISSIONS_STACK_BYTES 4096u
 
 /* Kinds of an entry. */
 enum permissions_kind {
-    PERMISSIONS_GRANTED_ENTRY = 0,
-    PERMISSIONS_FLAG_DENIED_ENTRY = 1,
-    PERMISSIONS_PROMPT_DENIED_ENTRY = 2,
-    PERMISSIONS_FLAG_IGNORED_ENTRY = 3
+    PERMISSIONS_KIND_GRANTED = 0,
+    PERMISSIONS_KIND_FLAG_DENIED = 1,
+    PERMISSIONS_KIND_PROMPT_DENIED = 2,
+    PERMISSIONS_KIND_FLAG_IGNORED = 3
 };
 
 /* Switches; they add up. */
@@ -59,6 +92,13 @@ enum permissions_switch {
     PERMISSIONS_SWITCH_PROMPT = 16 /* the operator may be asked */
 };
 
+/* Marks; they add up. One is set once an entry of its kind was inserted. */
+enum permissions_mark {
+    PERMISSIONS_MARK_FLAG_DENIED = 1,
+    PERMISSIONS_MARK_PROMPT_DENIED = 2,
+    PERMISSIONS_MARK_FLAG_IGNORED = 4
+};
+
 /* Modes of a query: what a partly denied path counts as. */
 enum permissions_mode {
     PERMISSIONS_MODE_DENIED = 0,
@@ -68,39 +108,55 @@ enum permissions_mode {
 
 /* States, the answers of a query. */
 enum permissions_state {
-    PERMISSIONS_GRANTED = 0,
-    PERMISSIONS_GRANTED_PARTIAL = 1,
-    PERMISSIONS_PROMPT = 2,
-    PERMISSIONS_DENIED = 3,
-    PERMISSIONS_DENIED_PARTIAL = 4,
-    PERMISSIONS_IGNORED = 5
+    PERMISSIONS_STATE_GRANTED = 0,
+    PERMISSIONS_STATE_GRANTED_PARTIAL = 1,
+    PERMISSIONS_STATE_PROMPT = 2,
+    PERMISSIONS_STATE_DENIED = 3,
+    PERMISSIONS_STATE_DENIED_PARTIAL = 4,
+    PERMISSIONS_STATE_IGNORED = 5
 };
 
 /* The operator's answer. */
 enum permissions_answer {
-    PERMISSIONS_DENY = 0,
-    PERMISSIONS_ALLOW = 1,
-    PERMISSIONS_ALLOW_ALL = 2 /* reading as a whole */
+    PERMISSIONS_ANSWER_DENY = 0,
+    PERMISSIONS_ANSWER_ALLOW = 1,
+    PERMISSIONS_ANSWER_ALLOW_ALL = 2 /* reading as a whole */
 };
 
-/* Refusals, as results. */
-enum permissions_refusal {
-    PERMISSIONS_NO_TABLE = -1,           /* the memory is too small for a table, or holds none */
-    PERMISSIONS_NO_SPACE = -2,           /* the text space is under 1,041 bytes */
-    PERMISSIONS_UNKNOWN = -3,            /* an answer, mode or kind is unknown, or switches are above 31 */
-    PERMISSIONS_EMPTY_PATH = -4,         /* the path is empty */
-    PERMISSIONS_PATH_TOO_LONG = -5,      /* the path is over 1,024 bytes */
-    PERMISSIONS_BAD_DIRECTORY = -6,      /* a relative path, and a working directory that is empty,
-                                            over 1,024 bytes or does not begin with '/' */
-    PERMISSIONS_RESOLVED_TOO_LONG = -7,  /* the resolved path is over 1,024 bytes */
-    PERMISSIONS_TABLE_FULL = -8          /* an entry would be added, and there are 256, or the sum of
-                                            path lengths would be over 32,768 bytes */
+/* What a child is to have. */
+enum permissions_child_code {
+    PERMISSIONS_CHILD_INHERIT = 0,     /* its parent's table */
+    PERMISSIONS_CHILD_GRANTED = 1,     /* reading as a whole, if the parent passes that */
+    PERMISSIONS_CHILD_NOT_GRANTED = 2, /* no grant */
+    PERMISSIONS_CHILD_LIST = 3         /* the items, if the parent passes each */
 };
+
+/* Refusals, as results. 9 and 11 belong to the link with the standby. */
+enum permissions_refusal {
+    PERMISSIONS_REFUSAL_NO_TABLE = -1,          /* the memory is too small for a table, or holds none; memory about to get a
+                                                   fresh or child table need only be large enough */
+    PERMISSIONS_REFUSAL_NO_SPACE = -2,          /* the text space is under 1,041 bytes */
+    PERMISSIONS_REFUSAL_UNKNOWN = -3,           /* an answer, mode, kind or child code is unknown, switches are above 31, or a
+                                                   child's items or answers are not in order */
+    PERMISSIONS_REFUSAL_EMPTY_PATH = -4,        /* the path is empty */
+    PERMISSIONS_REFUSAL_PATH_TOO_LONG = -5,     /* the path is over 1,024 bytes */
+    PERMISSIONS_REFUSAL_BAD_DIRECTORY = -6,     /* a relative path, and a working directory that is empty, over 1,024 bytes
+                                                   or does not begin with '/' */
+    PERMISSIONS_REFUSAL_RESOLVED_TOO_LONG = -7, /* the resolved path is over 1,024 bytes */
+    PERMISSIONS_REFUSAL_TABLE_FULL = -8,        /* an entry would be added, and there are 256, or the sum of path lengths
+                                                   would be over 32,768 bytes */
+    PERMISSIONS_REFUSAL_NUMBERS_USED_UP = -9,   /* a recorded act needs a number above 16,777,215 */
+    PERMISSIONS_REFUSAL_ESCALATION = -10,       /* a child asks for more than its parent passes */
+    PERMISSIONS_REFUSAL_MALFORMED_RECORD = -11  /* a record is malformed */
+};
+
+/* ---- a table ---- */
 
 /* Writes a fresh table: no entry, switch or mark.
  *   memory, memory_size   where the table goes; only its size matters
  * Result: 0; refusal 1. */
-int32_t permissions_fresh(uint8_t *memory, size_t memory_size);
+PERMISSIONS_MUST_USE
+int32_t permissions_fresh(void *memory, size_t memory_size);
 
 /* Inserts an entry. Where the search finds an equal one, nothing is added.
  *   memory, memory_size        the table
@@ -108,15 +164,19 @@ int32_t permissions_fresh(uint8_t *memory, size_t memory_size);
  *   path, path_size            the path, as given
  *   directory, directory_size  the working directory; looked at only if the path is relative
  * Result: 0; refusals 1, 3 to 8. */
-int32_t permissions_insert(uint8_t *memory, size_t memory_size, uint32_t kind,
-                           const uint8_t *path, size_t path_size,
-                           const uint8_t *directory, size_t directory_size);
+PERMISSIONS_MUST_USE
+int32_t permissions_insert(void *memory, size_t memory_size, uint32_t kind,
+                           const void *path, size_t path_size,
+                           const void *directory, size_t directory_size);
 
 /* Sets the switches, all five together.
  *   memory, memory_size   the table
  *   switches              a sum of enum permissions_switch, 0 to 31
  * Result: 0; refusals 1, 3. */
-int32_t permissions_switches(uint8_t *memory, size_t memory_size, uint32_t switches);
+PERMISSIONS_MUST_USE
+int32_t permissions_switches(void *memory, size_t memory_size, uint32_t switches);
+
+/* ---- query: what state has a path? ---- */
 
 /* Asks for the state of a path. The table is not changed.
  *   memory, memory_size        the table
@@ -124,85 +184,218 @@ int32_t permissions_switches(uint8_t *memory, size_t memory_size, uint32_t switc
  *   path, path_size            the path, as given
  *   directory, directory_size  the working directory; looked at only if the path is relative
  * Result: enum permissions_state; refusals 1, 3 to 7. */
-int32_t permissions_query(const uint8_t *memory, size_t memory_size, uint32_t mode,
-                          const uint8_t *path, size_t path_size,
-                          const uint8_t *directory, size_t directory_size);
+PERMISSIONS_MUST_USE
+int32_t permissions_query(const void *memory, size_t memory_size, uint32_t mode,
+                          const void *path, size_t path_size,
+                          const void *directory, size_t directory_size);
 
 /* Asks for the state of reading as a whole, with no path. The table is not changed.
- *   memory, memory_size   the table
- *   mode                  enum permissions_mode
  * Result: enum permissions_state; refusals 1, 3. */
-int32_t permissions_query_all(const uint8_t *memory, size_t memory_size, uint32_t mode);
+PERMISSIONS_MUST_USE
+int32_t permissions_query_all(const void *memory, size_t memory_size, uint32_t mode);
 
-/* Checks a path: may it be read? Where the switch for it is set and no rule
- * decides, the operator is asked, and the answer handed in counts: Allow inserts
- * the path as granted, AllowAll sets switch GRANTED, Deny inserts the path as
- * prompt-denied. Where the operator is asked and where the check fails, the text
- * is written from the start of its space, `read access to "PATH"`, not ended by a
- * zero byte; no more of the space is touched.
+/* ---- check: may it be read? ----
+ *
+ * Where the switch for it is set and no rule decides, the operator is asked, and
+ * the answer handed in counts. So look first whether the check would ask, put the
+ * question, and then check with the answer:
+ *
+ *     uint32_t answer = PERMISSIONS_ANSWER_DENY;
+ *     if (permissions_check_asks(table, sizeof table, path, path_size, directory, directory_size,
+ *                                text, sizeof text, &text_size) == 1)
+ *         answer = put_the_question(text, text_size);
+ *     if (permissions_check(table, sizeof table, path, path_size, directory, directory_size,
+ *                           answer, text, sizeof text, &asked, &text_size) != 0)
+ *         return deny(text, text_size);
+ *
+ * The text is `read access to "NAME"`, not ended by a zero byte. The name holds
+ * the path's bytes as they are: escape it before it is shown, since a file's name
+ * can hold control characters, quotes and anything else but '/'.
+ */
+
+/* Whether a check of a path would ask the operator, whatever the answer. The table is not changed.
+ *   memory, memory_size        the table
+ *   path, path_size            the path, as given
+ *   directory, directory_size  the working directory; looked at only if the path is relative
+ *   text, text_space           where the question's text goes, if there is one; no more of it is touched
+ *   text_size                  the size of that text; 0 if there is none
+ * Result: 1 the check would ask; 0 it would not; refusals 1, 2, 4 to 7. */
+PERMISSIONS_MUST_USE
+int32_t permissions_check_asks(const void *memory, size_t memory_size,
+                               const void *path, size_t path_size,
+                               const void *directory, size_t directory_size,
+                               void *text, size_t text_space, size_t *text_size);
+
+/* Checks a path. Where the operator is asked, Allow inserts the path as granted,
+ * AllowAll sets switch GRANTED, and Deny inserts the path as prompt-denied.
  *   memory, memory_size        the table
  *   path, path_size            the path, as given
  *   directory, directory_size  the working directory; looked at only if the path is relative
  *   answer                     enum permissions_answer; must be known even if nobody is asked
- *   text, text_size            where the text goes
- * Result: see the functions below; refusals 1 to 8. */
-int32_t permissions_check(uint8_t *memory, size_t memory_size,
-                          const uint8_t *path, size_t path_size,
-                          const uint8_t *directory, size_t directory_size,
-                          uint32_t answer, uint8_t *text, size_t text_size);
+ *   text, text_space           where the text goes if the operator is asked or the check fails; no more of it is touched
+ *   asked                      1 if the operator was asked, else 0
+ *   text_size                  the size of the text; 0 if there is none
+ * Result: 0 the path may be read; the state (enum permissions_state, 2 to 5) that it fails with; refusals 1 to 8. */
+PERMISSIONS_MUST_USE
+int32_t permissions_check(void *memory, size_t memory_size,
+                          const void *path, size_t path_size,
+                          const void *directory, size_t directory_size,
+                          uint32_t answer, void *text, size_t text_space,
+                          uint32_t *asked, size_t *text_size);
 
-/* Checks reading as a whole, with no path. A yes sets switch GRANTED, Deny sets
- * switch PROMPT_DENIED; the text is `read access`.
- *   memory, memory_size   the table
- *   answer                enum permissions_answer
- *   text, text_size       where the text goes
- * Result: see the functions below; refusals 1 to 3. */
-int32_t permissions_check_all(uint8_t *memory, size_t memory_size,
-                              uint32_t answer, uint8_t *text, size_t text_size);
+/* The same for reading as a whole, with no path. A yes sets switch GRANTED, Deny
+ * sets switch PROMPT_DENIED; the text is `read access`.
+ * Results as above; refusals 1, 2, and for the check 3. */
+PERMISSIONS_MUST_USE
+int32_t permissions_check_all_asks(const void *memory, size_t memory_size,
+                                   void *text, size_t text_space, size_t *text_size);
 
-/* Requests a path: what state has it, and may it be granted for later? Granted
- * inserts the path as granted. Where no rule decides, the state is Denied, unless
- * the operator may be asked; then the answer counts as in a check, and the state
- * is Granted or Denied. The text is written only if the operator is asked.
- * Arguments as for permissions_check.
- * Result: see the functions below; refusals 1 to 8. */
-int32_t permissions_request(uint8_t *memory, size_t memory_size,
-                            const uint8_t *path, size_t path_size,
-                            const uint8_t *directory, size_t directory_size,
-                            uint32_t answer, uint8_t *text, size_t text_size);
+PERMISSIONS_MUST_USE
+int32_t permissions_check_all(void *memory, size_t memory_size,
+                              uint32_t answer, void *text, size_t text_space,
+                              uint32_t *asked, size_t *text_size);
 
-/* Requests reading as a whole, with no path. Arguments as for permissions_check_all.
- * Result: see the functions below; refusals 1 to 3. */
-int32_t permissions_request_all(uint8_t *memory, size_t memory_size,
-                                uint32_t answer, uint8_t *text, size_t text_size);
+/* ---- request: what state has it, and may it be granted for later? ----
+ *
+ * Granted inserts the path as granted, also where it is granted by an entry for
+ * what lies above it: a request for each of many files fills the table, up to
+ * refusal 8. To read a file, use check, which inserts only what the operator was
+ * asked about. Where no rule decides, the state is Denied, unless the operator may
+ * be asked; then the answer counts as in a check. Arguments as for a check; the
+ * text is written only if the operator is asked.
+ * Result: enum permissions_state; refusals 1 to 8 (with no path 1 to 3). */
 
-/* The result of a check or request that is not refused: bits 0 to 3 are a state, 0
- * if a check passes, else the one that it fails with; bit 4 is set if the operator
- * was asked; the bits above are the text's size. */
+PERMISSIONS_MUST_USE
+int32_t permissions_request_asks(const void *memory, size_t memory_size,
+                                 const void *path, size_t path_size,
+                                 const void *directory, size_t directory_size,
+                                 void *text, size_t text_space, size_t *text_size);
 
-/* Whether a check passes; a refused one does not. */
-static inline int permissions_passes(int32_t result)
+PERMISSIONS_MUST_USE
+int32_t permissions_request(void *memory, size_t memory_size,
+                            const void *path, size_t path_size,
+                            const void *directory, size_t directory_size,
+                            uint32_t answer, void *text, size_t text_space,
+                            uint32_t *asked, size_t *text_size);
+
+PERMISSIONS_MUST_USE
+int32_t permissions_request_all_asks(const void *memory, size_t memory_size,
+                                     void *text, size_t text_space, size_t *text_size);
+
+PERMISSIONS_MUST_USE
+int32_t permissions_request_all(void *memory, size_t memory_size,
+                                uint32_t answer, void *text, size_t text_space,
+                                uint32_t *asked, size_t *text_size);
+
+/* ---- revoke ---- */
+
+/* Drops every granted entry whose path is a prefix of this one; deeper grants stay.
+ *   memory, memory_size        the table
+ *   path, path_size            the path, as given
+ *   directory, directory_size  the working directory; looked at only if the path is relative
+ * Result: the state of the path afterwards, in mode partial; refusals 1, 4 to 7. */
+PERMISSIONS_MUST_USE
+int32_t permissions_revoke(void *memory, size_t memory_size,
+                           const void *path, size_t path_size,
+                           const void *directory, size_t directory_size);
+
+/* Drops every granted entry and clears switch GRANTED.
+ * Result: the state of reading as a whole afterwards; refusal 1. */
+PERMISSIONS_MUST_USE
+int32_t permissions_revoke_all(void *memory, size_t memory_size);
+
+/* ---- child ---- */
+
+/* Makes a child's table from its parent's. The parent checks each item, and asks the operator where a check asks.
+ *   parent, parent_size        the parent's table, which gets what the operator's answers insert
+ *   child, child_size          where the child's table goes; only its size matters
+ *   code                       enum permissions_child_code
+ *   items, items_size          the bytes of the items' paths, one behind the other; none without code LIST
+ *   ends, ends_count           the position in items where each item ends; they do not fall, and the last is items_size
+ *   answers, answers_count     an answer for each item; one for GRANTED, none for INHERIT and NOT_GRANTED
+ *   directory, directory_size  the working directory; looked at only for relative items
+ *   asked                      how often the operator was asked, also if the call is refused
+ * Result: 0; refusals 1, 3 to 8, 10. After 1 and 3 nothing has changed. After any other refusal the child's table is
+ * fresh (behind its four bytes the memory holds anything), and the parent keeps what the items before the refused one
+ * inserted; under 10 and the child's own 8 that item's too. */
+PERMISSIONS_MUST_USE
+int32_t permissions_child(void *parent, size_t parent_size,
+                          void *child, size_t child_size, uint32_t code,
+                          const void *items, size_t items_size,
+                          const uint32_t *ends, size_t ends_count,
+                          const uint32_t *answers, size_t answers_count,
+                          const void *directory, size_t directory_size,
+                          uint32_t *asked);
+
+/* ---- reading a table ---- */
+
+/* How many bytes the table takes, from the memory's start: what to save. Two tables
+ * are the same exactly if they take the same bytes. To load one, put its bytes at
+ * the start of memory of PERMISSIONS_TABLE_BYTES and see that the size comes back.
+ * Result: 4 or more; refusal 1 where the memory holds no table. */
+PERMISSIONS_MUST_USE
+int32_t permissions_used(const void *memory, size_t memory_size);
+
+/* The table's count of entries, its switches and its marks.
+ * Result: 0; refusal 1, and then the three are 0. */
+PERMISSIONS_MUST_USE
+int32_t permissions_head(const void *memory, size_t memory_size,
+                         uint32_t *count, uint32_t *switches, uint32_t *marks);
+
+/* The entry at a place of the list, from 0.
+ *   kind         enum permissions_kind
+ *   path_start   where its path begins: (const char *)memory + path_start
+ *   path_size    how many bytes the path has
+ * Result: 1; 0 where the list has no such place; refusal 1. Without an entry the three are 0. */
+PERMISSIONS_MUST_USE
+int32_t permissions_entry(const void *memory, size_t memory_size, uint32_t place,
+                          uint32_t *kind, size_t *path_start, size_t *path_size);
+
+/* ---- names ---- */
+
+/* The name of a state, or "unknown". */
+static inline const char *permissions_state_name(int32_t state)
 {
-    return result >= 0 && result % 16 == 0;
+    switch (state) {
+    case PERMISSIONS_STATE_GRANTED: return "Granted";
+    case PERMISSIONS_STATE_GRANTED_PARTIAL: return "GrantedPartial";
+    case PERMISSIONS_STATE_PROMPT: return "Prompt";
+    case PERMISSIONS_STATE_DENIED: return "Denied";
+    case PERMISSIONS_STATE_DENIED_PARTIAL: return "DeniedPartial";
+    case PERMISSIONS_STATE_IGNORED: return "Ignored";
+    default: return "unknown";
+    }
 }
 
-/* The state that a check fails with or a request returns, enum permissions_state;
- * a refusal stays as it is. */
-static inline int32_t permissions_state_of(int32_t result)
+/* The name of an entry's kind, or "unknown". */
+static inline const char *permissions_kind_name(uint32_t kind)
 {
-    return result < 0 ? result : result % 16;
+    switch (kind) {
+    case PERMISSIONS_KIND_GRANTED: return "granted";
+    case PERMISSIONS_KIND_FLAG_DENIED: return "flag-denied";
+    case PERMISSIONS_KIND_PROMPT_DENIED: return "prompt-denied";
+    case PERMISSIONS_KIND_FLAG_IGNORED: return "flag-ignored";
+    default: return "unknown";
+    }
 }
 
-/* Whether the operator was asked. */
-static inline int permissions_asked(int32_t result)
+/* What a negative result says, or "not refused". */
+static inline const char *permissions_refusal_name(int32_t result)
 {
-    return result >= 0 && result / 16 % 2 == 1;
-}
-
-/* The size of the text that was written, 0 if none was. */
-static inline size_t permissions_text_size(int32_t result)
-{
-    return result < 0 ? 0u : (size_t)(result / 32);
+    switch (result) {
+    case PERMISSIONS_REFUSAL_NO_TABLE: return "no table";
+    case PERMISSIONS_REFUSAL_NO_SPACE: return "text space too small";
+    case PERMISSIONS_REFUSAL_UNKNOWN: return "unknown number or items out of order";
+    case PERMISSIONS_REFUSAL_EMPTY_PATH: return "empty path";
+    case PERMISSIONS_REFUSAL_PATH_TOO_LONG: return "path too long";
+    case PERMISSIONS_REFUSAL_BAD_DIRECTORY: return "bad working directory";
+    case PERMISSIONS_REFUSAL_RESOLVED_TOO_LONG: return "resolved path too long";
+    case PERMISSIONS_REFUSAL_TABLE_FULL: return "table full";
+    case PERMISSIONS_REFUSAL_NUMBERS_USED_UP: return "change numbers used up";
+    case PERMISSIONS_REFUSAL_ESCALATION: return "child asks for more than its parent passes";
+    case PERMISSIONS_REFUSAL_MALFORMED_RECORD: return "malformed record";
+    default: return result < 0 ? "unknown refusal" : "not refused";
+    }
 }
 
 #ifdef __cplusplus

@@ -1,191 +1,301 @@
 /* A client of permissions.h: fills tables, asks, and prints what it learns.
  * It shows the trap of a list without a proper order, and that a refusal
- * changes nothing. */
+ * changes nothing. It compiles as C and as C++. */
 #include "permissions.h"
 
 #include <stdio.h>
+#include <stdlib.h>
 #include <string.h>
 
-static uint8_t table[PERMISSIONS_TABLE_BYTES];
-
-static const uint8_t *bytes(const char *text)
-{
-    return (const uint8_t *)text;
-}
-
-static const char *state_name(int32_t state)
-{
-    static const char *const names[] = {"Granted", "GrantedPartial", "Prompt",
-                                        "Denied", "DeniedPartial", "Ignored"};
-    return names[state];
-}
+static unsigned char table[PERMISSIONS_TABLE_BYTES];
+static char text[PERMISSIONS_TEXT_BYTES + 1];
+static uint32_t asked;
+static size_t text_size;
 
 static void show(const char *what, int32_t result)
 {
     if (result < 0)
-        printf("%s: refused %d\n", what, (int)-result);
+        printf("%s: refused %d, %s\n", what, (int)-result, permissions_refusal_name(result));
     else
-        printf("%s: %s\n", what, state_name(result));
+        printf("%s: %s\n", what, permissions_state_name(result));
+}
+
+/* For calls whose result is 0 or a refusal. */
+static void must(const char *what, int32_t result)
+{
+    if (result != 0)
+        show(what, result);
+}
+
+static void fresh(void)
+{
+    must("fresh", permissions_fresh(table, sizeof table));
+}
+
+static void switches(uint32_t value)
+{
+    must("switches", permissions_switches(table, sizeof table, value));
 }
 
 static void insert(uint32_t kind, const char *path)
 {
-    int32_t result = permissions_insert(table, sizeof table, kind, bytes(path), strlen(path), bytes("/"), 1);
-    if (result < 0)
-        printf("insert %s: refused %d\n", path, (int)-result);
+    must(path, permissions_insert(table, sizeof table, kind, path, strlen(path), NULL, 0));
 }
 
 static void ask(uint32_t mode, const char *path, const char *directory)
 {
     char what[128];
     snprintf(what, sizeof what, "query %u %s in %s", (unsigned)mode, path, directory);
-    show(what, permissions_query(table, sizeof table, mode, bytes(path), strlen(path),
-                                 bytes(directory), strlen(directory)));
+    show(what, permissions_query(table, sizeof table, mode, path, strlen(path), directory, strlen(directory)));
 }
 
-static void show_asked_and_text(int32_t result, const uint8_t *text)
+static void show_asked_and_text(void)
 {
-    if (permissions_asked(result))
+    if (asked)
         printf(", asked");
-    if (permissions_text_size(result) > 0)
-        printf(", text: %.*s", (int)permissions_text_size(result), (const char *)text);
+    if (text_size > 0)
+        printf(", text: %.*s", (int)text_size, text);
     printf("\n");
 }
 
 static void check(const char *path, const char *directory, uint32_t answer)
 {
-    static uint8_t text[PERMISSIONS_TEXT_BYTES];
-    int32_t result = permissions_check(table, sizeof table, bytes(path), strlen(path),
-                                       bytes(directory), strlen(directory), answer, text, sizeof text);
+    int32_t result = permissions_check(table, sizeof table, path, strlen(path), directory, strlen(directory),
+                                       answer, text, sizeof text, &asked, &text_size);
 
     printf("check %s in %s, answer %u: ", path, directory, (unsigned)answer);
     if (result < 0)
         printf("refused %d", (int)-result);
-    else if (permissions_passes(result))
+    else if (result == 0)
         printf("passes");
     else
-        printf("fails with %s", state_name(permissions_state_of(result)));
-    show_asked_and_text(result, text);
+        printf("fails with %s", permissions_state_name(result));
+    show_asked_and_text();
 }
 
 static void request(const char *path, const char *directory, uint32_t answer)
 {
-    static uint8_t text[PERMISSIONS_TEXT_BYTES];
-    int32_t result = permissions_request(table, sizeof table, bytes(path), strlen(path),
-                                         bytes(directory), strlen(directory), answer, text, sizeof text);
+    int32_t result = permissions_request(table, sizeof table, path, strlen(path), directory, strlen(directory),
+                                         answer, text, sizeof text, &asked, &text_size);
 
     printf("request %s in %s, answer %u: ", path, directory, (unsigned)answer);
     if (result < 0)
         printf("refused %d", (int)-result);
     else
-        printf("%s", state_name(permissions_state_of(result)));
-    show_asked_and_text(result, text);
+        printf("%s", permissions_state_name(result));
+    show_asked_and_text();
+}
+
+/* Every entry of a table, and its head, without a word about the layout. */
+static void list(const void *memory, size_t size)
+{
+    uint32_t count, set, marks, kind, place;
+    size_t start, path_size;
+
+    if (permissions_head(memory, size, &count, &set, &marks) != 0) {
+        puts("no table");
+        return;
+    }
+    printf("entries %u switches %u marks %u bytes %d\n", (unsigned)count, (unsigned)set, (unsigned)marks,
+           (int)permissions_used(memory, size));
+    for (place = 0; permissions_entry(memory, size, place, &kind, &start, &path_size) == 1; place++)
+        printf("%s %.*s\n", permissions_kind_name(kind), (int)path_size, (const char *)memory + start);
 }
 
 static void the_same_entries_in_two_sequences(void)
 {
     puts("-- D /z, G /c, G /z/b");
-    permissions_fresh(table, sizeof table);
-    insert(PERMISSIONS_FLAG_DENIED_ENTRY, "/z");
-    insert(PERMISSIONS_GRANTED_ENTRY, "/c");
-    insert(PERMISSIONS_GRANTED_ENTRY, "/z/b");
+    fresh();
+    insert(PERMISSIONS_KIND_FLAG_DENIED, "/z");
+    insert(PERMISSIONS_KIND_GRANTED, "/c");
+    insert(PERMISSIONS_KIND_GRANTED, "/z/b");
     ask(PERMISSIONS_MODE_PARTIAL, "/z/b/f", "/");
 
     puts("-- G /z/b, D /z, G /c");
-    permissions_fresh(table, sizeof table);
-    insert(PERMISSIONS_GRANTED_ENTRY, "/z/b");
-    insert(PERMISSIONS_FLAG_DENIED_ENTRY, "/z");
-    insert(PERMISSIONS_GRANTED_ENTRY, "/c");
+    fresh();
+    insert(PERMISSIONS_KIND_GRANTED, "/z/b");
+    insert(PERMISSIONS_KIND_FLAG_DENIED, "/z");
+    insert(PERMISSIONS_KIND_GRANTED, "/c");
     ask(PERMISSIONS_MODE_PARTIAL, "/z/b/f", "/");
 }
 
 static void partial_and_switches(void)
 {
     puts("-- G /a, D /a/k");
-    permissions_fresh(table, sizeof table);
-    insert(PERMISSIONS_GRANTED_ENTRY, "/a");
-    insert(PERMISSIONS_FLAG_DENIED_ENTRY, "/a/k");
+    fresh();
+    insert(PERMISSIONS_KIND_GRANTED, "/a");
+    insert(PERMISSIONS_KIND_FLAG_DENIED, "/a/k");
     ask(PERMISSIONS_MODE_PARTIAL, "/a", "/");
     ask(PERMISSIONS_MODE_DENIED, "/a", "/");
     ask(PERMISSIONS_MODE_GRANTED, "./k/../b", "/a");
     ask(PERMISSIONS_MODE_PARTIAL, "/other", "/");
-    permissions_switches(table, sizeof table, PERMISSIONS_SWITCH_GRANTED | PERMISSIONS_SWITCH_PROMPT);
+    switches(PERMISSIONS_SWITCH_GRANTED | PERMISSIONS_SWITCH_PROMPT);
     ask(PERMISSIONS_MODE_PARTIAL, "/other", "/");
     show("query with no path", permissions_query_all(table, sizeof table, PERMISSIONS_MODE_PARTIAL));
 }
 
 static void refusals(void)
 {
-    static uint8_t before[sizeof table];
-    static uint8_t long_path[PERMISSIONS_MAX_PATH_BYTES + 1];
+    static unsigned char before[sizeof table];
+    static char long_path[PERMISSIONS_MAX_PATH_BYTES + 1];
 
     puts("-- refusals");
     memset(long_path, '/', sizeof long_path);
     memcpy(before, table, sizeof table);
     show("memory one byte too small", permissions_query_all(table, sizeof table - 1, 0));
+    show("no memory", permissions_query_all(NULL, 0, 0));
     show("mode 3", permissions_query_all(table, sizeof table, 3));
-    show("kind 4", permissions_insert(table, sizeof table, 4, bytes("/a"), 2, bytes("/"), 1));
+    show("kind 4", permissions_insert(table, sizeof table, 4, "/a", 2, "/", 1));
     show("switches 32", permissions_switches(table, sizeof table, 32));
-    show("empty path", permissions_insert(table, sizeof table, 0, bytes(""), 0, bytes("/"), 1));
-    show("path of 1,025 bytes", permissions_insert(table, sizeof table, 0, long_path, sizeof long_path, bytes("/"), 1));
-    show("relative path, no directory", permissions_insert(table, sizeof table, 0, bytes("a"), 1, bytes(""), 0));
+    show("empty path", permissions_insert(table, sizeof table, 0, NULL, 0, "/", 1));
+    show("path of 1,025 bytes", permissions_insert(table, sizeof table, 0, long_path, sizeof long_path, "/", 1));
+    show("relative path, no directory", permissions_insert(table, sizeof table, 0, "a", 1, NULL, 0));
     puts(memcmp(before, table, sizeof table) == 0 ? "the table is unchanged" : "the table has changed");
 
     table[4] = 9; /* the kind of the first entry */
     show("memory that holds no table", permissions_query_all(table, sizeof table, 0));
+    list(table, sizeof table);
 }
 
 static void checks(void)
 {
-    static uint8_t before[sizeof table];
-    static uint8_t text[PERMISSIONS_TEXT_BYTES + 1];
+    static unsigned char before[sizeof table];
     int32_t result;
 
     puts("-- checks");
-    permissions_fresh(table, sizeof table);
-    check("runhours", "/var/log", PERMISSIONS_ALLOW); /* nobody may be asked */
-    permissions_switches(table, sizeof table, PERMISSIONS_SWITCH_PROMPT);
-    check("runhours", "/var/log", PERMISSIONS_ALLOW);
-    check("runhours", "/var/log", PERMISSIONS_DENY); /* granted by now */
-    check("/etc//set/../points", "/", PERMISSIONS_DENY);
-    check("/etc/points", "/", PERMISSIONS_ALLOW); /* denied by now */
-    check("<in>", "/", PERMISSIONS_DENY);
+    fresh();
+    check("runhours", "/var/log", PERMISSIONS_ANSWER_ALLOW); /* nobody may be asked */
+    switches(PERMISSIONS_SWITCH_PROMPT);
+    check("runhours", "/var/log", PERMISSIONS_ANSWER_ALLOW);
+    check("runhours", "/var/log", PERMISSIONS_ANSWER_DENY); /* granted by now */
+    check("/etc//set/../points", "/", PERMISSIONS_ANSWER_DENY);
+    check("/etc/points", "/", PERMISSIONS_ANSWER_ALLOW); /* denied by now */
+    check("<in>", "/", PERMISSIONS_ANSWER_DENY);
 
     memcpy(before, table, sizeof table);
     memset(text, '.', sizeof text);
     check("/a", "/", 3);
-    check("", "/", PERMISSIONS_ALLOW);
+    check("", "/", PERMISSIONS_ANSWER_ALLOW);
     show("text space one byte too small",
-         permissions_check_all(table, sizeof table, PERMISSIONS_ALLOW, text, PERMISSIONS_TEXT_BYTES - 1));
+         permissions_check_all(table, sizeof table, PERMISSIONS_ANSWER_ALLOW, text, PERMISSIONS_TEXT_BYTES - 1,
+                               &asked, &text_size));
     puts(memcmp(before, table, sizeof table) == 0 && text[0] == '.' ? "nothing is changed" : "something has changed");
 
     /* a path that was denied once denies reading as a whole */
-    result = permissions_check_all(table, sizeof table, PERMISSIONS_ALLOW, text, sizeof text);
-    printf("check with no path: fails with %s, text: %.*s\n", state_name(permissions_state_of(result)),
-           (int)permissions_text_size(result), (const char *)text);
-    puts(text[permissions_text_size(result)] == '.' ? "behind the text nothing is written" : "the text is followed by more");
-    permissions_fresh(table, sizeof table);
-    permissions_switches(table, sizeof table, PERMISSIONS_SWITCH_PROMPT);
-    result = permissions_check_all(table, sizeof table, PERMISSIONS_ALLOW_ALL, text, sizeof text);
-    printf("check with no path, answer 2: %s%s\n", permissions_passes(result) ? "passes" : "fails",
-           permissions_asked(result) ? ", asked" : "");
-    check("/etc/points", "/", PERMISSIONS_DENY); /* nobody is asked any more */
+    result = permissions_check_all(table, sizeof table, PERMISSIONS_ANSWER_ALLOW, text, sizeof text, &asked, &text_size);
+    printf("check with no path: fails with %s, text: %.*s\n", permissions_state_name(result), (int)text_size, text);
+    puts(text[text_size] == '.' ? "behind the text nothing is written" : "the text is followed by more");
+    fresh();
+    switches(PERMISSIONS_SWITCH_PROMPT);
+    result = permissions_check_all(table, sizeof table, PERMISSIONS_ANSWER_ALLOW_ALL, text, sizeof text, &asked, &text_size);
+    printf("check with no path, answer 2: %s%s\n", result == 0 ? "passes" : "fails", asked ? ", asked" : "");
+    check("/etc/points", "/", PERMISSIONS_ANSWER_DENY); /* nobody is asked any more */
+}
+
+/* The pattern for a host that asks: look, put the question, check with the answer. */
+static void look_first(const char *path, uint32_t operator_says)
+{
+    uint32_t answer = PERMISSIONS_ANSWER_DENY;
+    int32_t asks = permissions_check_asks(table, sizeof table, path, strlen(path), NULL, 0, text, sizeof text, &text_size);
+
+    if (asks == 1) {
+        printf("question: %.*s?\n", (int)text_size, text);
+        answer = operator_says;
+    }
+    check(path, "/", answer);
+}
+
+static void questions(void)
+{
+    puts("-- questions");
+    fresh();
+    look_first("/etc/points", PERMISSIONS_ANSWER_ALLOW); /* nobody may be asked */
+    switches(PERMISSIONS_SWITCH_PROMPT);
+    look_first("/etc/points", PERMISSIONS_ANSWER_ALLOW);
+    look_first("/etc/points", PERMISSIONS_ANSWER_ALLOW); /* granted by now */
+    look_first("/etc/keys", PERMISSIONS_ANSWER_DENY);
+    show("a look with a relative path and no directory",
+         permissions_request_asks(table, sizeof table, "a", 1, NULL, 0, text, sizeof text, &text_size));
+    printf("a request of /etc/points asks: %d; of /var: %d; of reading as a whole: %d\n",
+           (int)permissions_request_asks(table, sizeof table, "/etc/points", 11, NULL, 0, text, sizeof text, &text_size),
+           (int)permissions_request_asks(table, sizeof table, "/var", 4, NULL, 0, text, sizeof text, &text_size),
+           (int)permissions_request_all_asks(table, sizeof table, text, sizeof text, &text_size));
+    fresh();
+    switches(PERMISSIONS_SWITCH_PROMPT);
+    printf("on a fresh table a check of reading as a whole asks: %d",
+           (int)permissions_check_all_asks(table, sizeof table, text, sizeof text, &text_size));
+    printf(", %.*s\n", (int)text_size, text);
 }
 
 static void requests(void)
 {
-    static uint8_t text[PERMISSIONS_TEXT_BYTES];
-
     puts("-- requests");
-    permissions_fresh(table, sizeof table);
-    request("points", "/etc", PERMISSIONS_ALLOW); /* nobody may be asked */
-    permissions_switches(table, sizeof table, PERMISSIONS_SWITCH_PROMPT);
-    request("points", "/etc", PERMISSIONS_ALLOW);
-    request("/etc/points/3", "/", PERMISSIONS_DENY); /* granted by now */
-    request("points", "etc", PERMISSIONS_ALLOW);
-    printf("request with no path, answer 0: %s\n",
-           state_name(permissions_state_of(permissions_request_all(table, sizeof table, PERMISSIONS_DENY, text, sizeof text))));
+    fresh();
+    request("points", "/etc", PERMISSIONS_ANSWER_ALLOW); /* nobody may be asked */
+    switches(PERMISSIONS_SWITCH_PROMPT);
+    request("points", "/etc", PERMISSIONS_ANSWER_ALLOW);
+    request("/etc/points/3", "/", PERMISSIONS_ANSWER_DENY); /* granted by now */
+    request("points", "etc", PERMISSIONS_ANSWER_ALLOW);
+    show("request with no path, answer 0",
+         permissions_request_all(table, sizeof table, PERMISSIONS_ANSWER_DENY, text, sizeof text, &asked, &text_size));
     ask(PERMISSIONS_MODE_PARTIAL, "/etc/points", "/");
+    list(table, sizeof table);
+    show("revoke /etc/points/3", permissions_revoke(table, sizeof table, "points/3", 8, "/etc", 4));
+    show("revoke all", permissions_revoke_all(table, sizeof table));
+    list(table, sizeof table);
+}
+
+static void children(void)
+{
+    static unsigned char child[sizeof table];
+    static const char items[] = "/etc/pointslogs";
+    const uint32_t ends[] = {11, 15}, answers[] = {PERMISSIONS_ANSWER_ALLOW, PERMISSIONS_ANSWER_DENY};
+
+    puts("-- children");
+    fresh();
+    switches(PERMISSIONS_SWITCH_PROMPT);
+    insert(PERMISSIONS_KIND_GRANTED, "/var");
+    insert(PERMISSIONS_KIND_FLAG_DENIED, "/var/keys");
+    must("inherit", permissions_child(table, sizeof table, child, sizeof child, PERMISSIONS_CHILD_INHERIT,
+                                      NULL, 0, NULL, 0, NULL, 0, NULL, 0, &asked));
+    printf("inherited, asked %u\n", (unsigned)asked);
+    list(child, sizeof child);
+    show("list of /etc/points and logs, the second not allowed",
+         permissions_child(table, sizeof table, child, sizeof child, PERMISSIONS_CHILD_LIST,
+                           items, sizeof items - 1, ends, 2, answers, 2, "/home", 5, &asked));
+    printf("asked %u\n", (unsigned)asked);
+    list(table, sizeof table);
+    list(child, sizeof child);
+    must("list of /etc/points",
+         permissions_child(table, sizeof table, child, sizeof child, PERMISSIONS_CHILD_LIST,
+                           items, 11, ends, 1, answers, 1, NULL, 0, &asked));
+    list(child, sizeof child);
+    show("an end position that does not close",
+         permissions_child(table, sizeof table, child, sizeof child, PERMISSIONS_CHILD_LIST,
+                           items, 10, ends, 1, answers, 1, NULL, 0, &asked));
+}
+
+/* A table is saved as the bytes that it takes, and comes back as the same table. */
+static void saving(void)
+{
+    static unsigned char again[sizeof table];
+    int32_t used;
+    unsigned char *file;
+
+    puts("-- saving");
+    fresh();
+    insert(PERMISSIONS_KIND_GRANTED, "/var/log");
+    used = permissions_used(table, sizeof table);
+    file = (unsigned char *)malloc((size_t)used);
+    if (used < 0 || file == NULL)
+        return;
+    memcpy(file, table, (size_t)used);
+    memset(again, 0xAA, sizeof again);
+    memcpy(again, file, (size_t)used);
+    free(file);
+    puts(permissions_used(again, sizeof again) == used && memcmp(table, again, (size_t)used) == 0 ? "the same table"
+                                                                                              : "another table");
+    list(again, sizeof again);
 }
 
 static void a_full_table(void)
@@ -194,25 +304,29 @@ static void a_full_table(void)
     int i;
 
     puts("-- a full table");
-    permissions_fresh(table, sizeof table);
+    fresh();
     for (i = 0; i < 257; i++) {
         snprintf(path, sizeof path, "/entry%03d", i);
-        insert(PERMISSIONS_GRANTED_ENTRY, path);
+        insert(PERMISSIONS_KIND_GRANTED, path);
     }
     ask(PERMISSIONS_MODE_PARTIAL, "/entry255", "/");
     ask(PERMISSIONS_MODE_PARTIAL, "/entry256", "/");
-    permissions_switches(table, sizeof table, PERMISSIONS_SWITCH_PROMPT);
-    check("/entry256", "/", PERMISSIONS_ALLOW);
-    check("/entry255", "/", PERMISSIONS_ALLOW);
+    switches(PERMISSIONS_SWITCH_PROMPT);
+    look_first("/entry256", PERMISSIONS_ANSWER_ALLOW);
+    check("/entry255", "/", PERMISSIONS_ANSWER_ALLOW);
 }
 
 int main(void)
 {
+    printf("permissions %s\n", PERMISSIONS_VERSION);
     the_same_entries_in_two_sequences();
     partial_and_switches();
     refusals();
     checks();
+    questions();
     requests();
+    children();
+    saving();
     a_full_table();
     return 0;
 }

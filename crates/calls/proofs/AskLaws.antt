@@ -198,7 +198,7 @@ module _ (call : Call) (numbers : Numbering) (m s : List ℕ) (d : Descriptor) (
 
 -- ---- what the call answers and leaves
 
-text-same : {d : Descriptor} {p cwd : List ℕ} {n : ℕ} {s : List ℕ} → Stands d p cwd n s → textOf d p (take n s) ≡ textOf d p (resolve p cwd)
+pub text-same : {d : Descriptor} {p cwd : List ℕ} {n : ℕ} {s : List ℕ} → Stands d p cwd n s → textOf d p (take n s) ≡ textOf d p (resolve p cwd)
 text-same {d = NoPath} S = unfold textOf in refl
 text-same {d = Path} {p = p} S = ap (textOf Path p) (S .bytes refl)
 

@@ -2,4 +2,5 @@ pub mod DecisionLaws
 pub mod FittingLaws
 pub mod TextLaws
 pub mod AskLaws
+pub mod QuestionLaws
 pub mod KeepLaws

@@ -21,9 +21,10 @@ use Rattle.calls.specs.declared.Call.{Call}
 use Rattle.calls.specs.declared.Decided.{Decided}
 use Rattle.calls.specs.declared.Settled.{Settled}
 use Rattle.calls.specs.declared.Asked.{Asked}
+use Rattle.calls.specs.declared.Question.{Question}
 use Rattle.calls.specs.Decisions.{Decision, decide}
 use Rattle.calls.specs.Texts.{textOf}
-use Rattle.calls.specs.Calls.{textBytes, carriedOut, answerIn, actsIn, settledAs, revokeDesc}
+use Rattle.calls.specs.Calls.{textBytes, carriedOut, answerIn, actsIn, settledAs, questionBy, revokeDesc}
 
 -- what the code decided, with the path q lent beside it, is this decision
 pub record Decides (decision : Decision) (q : List ℕ) (r : Decided) : Type 0 where
@@ -70,3 +71,8 @@ pub record Finishes (state : PermissionState) (asked writes : Bool) (d : Descrip
   pub told : r .asked ≡ asked
   pub size : r .text ≡ length (cond writes (textOf d given resolved) [])
   pub space : s′ ≡ begun (cond writes (textOf d given resolved) []) s
+
+-- the question of what is given, if one would be asked, and the text space s after it
+pub record PutsQuestion (asks : Bool) (d : Descriptor) (given resolved s s′ : List ℕ) (r : Question) : Type 0 where
+  pub answer : r ≡ questionBy asks (textOf d given resolved)
+  pub space : s′ ≡ begun (cond asks (textOf d given resolved) []) s

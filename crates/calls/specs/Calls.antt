@@ -1,9 +1,9 @@
--- The calls check, request and revoke: for each its checking order, its answer, and the lent bytes after it. Document 01, "A call comes in".
+-- The calls check, request and revoke, and what a call would ask: for each its checking order, its answer, and the lent bytes after it. Document 01, "A call comes in".
 use Prim.Native.Nat.{ℕ}
 use mathlib.Core.Path.{_≡_}
 use mathlib.Core.List.{List, [], _∷_}
 use mathlib.Core.Option.{none, some}
-use mathlib.Core.Bool.{Bool, false, cond}
+use mathlib.Core.Bool.{Bool, true, false, cond}
 use lib.ListN.{length}
 use lib.Dec.{ltb}
 use Rattle.refusals.specs.declared.Refusal.the-variants.{NoSpace}
@@ -24,10 +24,13 @@ use Rattle.walk.specs.declared.Answer.{Answer}
 use Rattle.walk.specs.declared.Answer.the-variants as answer
 use Rattle.walk.specs.Walk.{queryDesc}
 use Rattle.calls.specs.declared.PromptResponse.{PromptResponse}
+use Rattle.calls.specs.declared.PromptResponse.the-variants.{Deny}
 use Rattle.calls.specs.declared.Call.{Call}
 use Rattle.calls.specs.declared.Settled.{Settled}
 use Rattle.calls.specs.declared.Settled.the-variants as settled-as
 use Rattle.calls.specs.declared.Asked.{Asked}
+use Rattle.calls.specs.declared.Question.{Question}
+use Rattle.calls.specs.declared.Question.the-variants as question
 use Rattle.calls.specs.Decisions.{responseOf, knownResponse, Decision, decide}
 use Rattle.calls.specs.Texts.{textOf}
 
@@ -103,6 +106,38 @@ pub record Asks (call : Call) (m s : List ℕ) (d : Descriptor) (p cwd : List �
   pub size : r .text ≡ length (textDue (askCall call Plain m s d p cwd response) d p cwd)
   pub space : s′ ≡ begun (textDue (askCall call Plain m s d p cwd response) d p cwd) s
   pub memory : m′ ≡ doActs m (actsIn (askCall call Plain m s d p cwd response))
+
+-- ---- what check and request would ask, before the operator's answer is known
+
+-- whether the operator is asked about q; it is the same for every answer (`asked-whatever`)
+unfoldable pub wouldAsk : Call → Table → Query → Bool
+wouldAsk call t q = decide call t q Deny .asked
+
+-- 1, 2, and 4 to 7
+unfoldable pub questionCall : Call → List ℕ → List ℕ → Descriptor → List ℕ → List ℕ → Result Bool
+questionCall call m s d p cwd =
+    andThen (tableIn m) (λ t.
+    andThen (textSpace s) (λ room.
+    andThen (given d p cwd) (λ q.
+    ok (wouldAsk call t q))))
+
+-- the question, if one would be asked, and its length, as an answer of the code
+unfoldable pub questionBy : Bool → List ℕ → Question
+questionBy true text = question.Asks (length text)
+questionBy false text = question.AsksNothing
+
+unfoldable pub questionIn : Result Bool → List ℕ → Question
+questionIn (refused cause) text = question.Refused cause
+questionIn (ok asks) text = questionBy asks text
+
+unfoldable pub questionText : Result Bool → List ℕ → List ℕ
+questionText (refused cause) text = []
+questionText (ok asks) text = cond asks text []
+
+-- the text space s becomes s′: the question stands at its start, or nothing changes
+pub record Questions (call : Call) (m s : List ℕ) (d : Descriptor) (p cwd s′ : List ℕ) (r : Question) : Type 0 where
+  pub answer : r ≡ questionIn (questionCall call m s d p cwd) (textOf d p (resolve p cwd))
+  pub space : s′ ≡ begun (questionText (questionCall call m s d p cwd) (textOf d p (resolve p cwd))) s
 
 -- ---- revoke
 

@@ -6,6 +6,7 @@ use walk::PermissionState;
 
 pub mod asking;
 pub mod deciding;
+pub mod questioning;
 pub mod revoking;
 pub mod texts;
 
@@ -53,4 +54,11 @@ pub struct Asked {
     pub answer: Answer,
     pub asked: bool,
     pub text: usize,
+}
+
+// What a call would ask the operator: a question with so many bytes of text, or nothing; or why the call would be refused.
+pub enum Question {
+    Asks(usize),
+    AsksNothing,
+    Refused(Refusal),
 }

@@ -28,7 +28,6 @@ use Rattle.child.specs.declared.ChildUnaryPermissionArg.the-variants.{In
 use Rattle.child.specs.Arguments.{listItems}
 use Rattle.child.specs.Making.{
   Made,
-  nothing,
   refusedBy,
   onward,
   then,

@@ -11,7 +11,6 @@ use Rattle.refusals.specs.declared.Refusal.the-variants.{NoTable}
 use Rattle.refusals.specs.Refusals.{refused, ok, andThen}
 use Rattle.table.specs.declared.Numbering.the-variants.{Plain}
 use Rattle.table.specs.declared.Outcome.{Outcome}
-use Rattle.table.specs.declared.Outcome.the-variants as outcome
 use Rattle.table.specs.Tables.{Table, fresh, pathBytes, every, any, present, marksOf, isTable}
 use Rattle.table.specs.Acts.{applyActs}
 use Rattle.table.specs.Memory.{tableBytes, tableOf, holds, put, doActs}
@@ -23,22 +22,7 @@ use Rattle.child.specs.declared.ChildMade.{ChildMade}
 use Rattle.child.specs.declared.ChildUnaryPermissionArg.{ChildUnaryPermissionArg}
 use Rattle.child.specs.declared.ChildUnaryPermissionArg.the-variants.{Inherit, Granted, NotGranted, GrantedList}
 use Rattle.child.specs.Arguments.{Item, Arguments, argOf, itemsOf, areInOrder, argumentsOf}
-use Rattle.child.specs.Making.{
-  Made,
-  nothing,
-  refusedBy,
-  onward,
-  then,
-  grantedBy,
-  granting,
-  itemStep,
-  allItems,
-  takeOver,
-  takeOverActs,
-  firstChild,
-  completed,
-  createChild,
-}
+use Rattle.child.specs.Making.{Made, then, itemStep, allItems, takeOver, takeOverActs, firstChild, completed, createChild}
 use Rattle.child.specs.Calls.{creation, childCall, refusalIn, askedIn, actsIn, childLeft, childAfter, CreatesChild}
 use Rattle.child.specs.Steps.{madeRefused, Makes, afterItems, Completes}
 use Rattle.child.specs.declared.ArgRead.the-variants.{Arg}

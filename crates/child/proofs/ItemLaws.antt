@@ -13,6 +13,7 @@ use Rattle.paths.specs.declared.Descriptor.the-variants.{NoPath, Path}
 use Rattle.paths.specs.Resolving.{resolve}
 use Rattle.paths.specs.Giving.{Query, queryOf}
 use Rattle.paths.proofs.GivingLaws.{Stands}
+use Rattle.table.specs.declared.Numbering.{Numbering}
 use Rattle.table.specs.declared.Numbering.the-variants.{Plain}
 use Rattle.table.specs.declared.Outcome.{Outcome}
 use Rattle.table.specs.declared.Outcome.the-variants as outcome
@@ -112,9 +113,9 @@ asked-by (ok decision) q u = rw (item-asked decision q u) (count-small (decision
     count-small true = unfold countOf in omega arith
     count-small false = unfold countOf in omega arith
 
-pub item-once : (cwd : List ℕ) (i : Item) (t u : Table) → itemStep Plain cwd i t u .asked ≤ 1
+pub item-once : (numbers : Numbering) (cwd : List ℕ) (i : Item) (t u : Table) → itemStep numbers cwd i t u .asked ≤ 1
 unfolding itemStep
-item-once cwd i t u = asked-by _ _ u
+item-once numbers cwd i t u = asked-by _ _ u
 
 -- ---- the items of a list, in turn
 
@@ -195,7 +196,7 @@ module _ {cwd bytes ends responses m₀ c₀ m c : List ℕ} {asked from i : ℕ
   module _ {m₁ c₁ : List ℕ} {r : ChildMade} (A : Makes (itemStep Plain cwd item (tableOf m) (tableOf c)) m c m₁ c₁ r) where
     -- its outcome counts once at most
     pub going-once : r .asked ≤ 1
-    going-once = rw (A .asked) (item-once cwd item (tableOf m) (tableOf c))
+    going-once = rw (A .asked) (item-once Plain cwd item (tableOf m) (tableOf c))
 
     left-parent : Acted m (itemStep Plain cwd item (tableOf m) (tableOf c) .acts)
     left-parent = item-parent cwd item m c (G .parent) (G .child)
@@ -220,7 +221,7 @@ module _ {cwd bytes ends responses m₀ c₀ m c : List ℕ} {asked from i : ℕ
       child = rw (A .child) (left-child .holding);
       same-parent = going-parent;
       child-length = going-child;
-      few = omega (arith, G .few, A .asked, item-once cwd item (tableOf m) (tableOf c));
+      few = omega (arith, G .few, A .asked, item-once Plain cwd item (tableOf m) (tableOf c));
       closes = rw f (closing-next (length bytes) from ends i h (G .closes) .rest);
       goes = λ known k m′ c′ r′ M.
           let tables : (tableOf m₁ ≡ applyActs (tableOf m) (itemStep Plain cwd item (tableOf m) (tableOf c) .acts)) = ap tableOf (A .parent) ∙ left-parent .table in

@@ -26,21 +26,7 @@ use Rattle.table.proofs.CallLaws.{a-table}
 use Rattle.table.proofs.KeepLaws.{Keeps, acted-keeps, step-acted}
 use Rattle.child.specs.declared.ChildMade.{ChildMade}
 use Rattle.child.specs.Arguments.{Arguments, argumentsOf}
-use Rattle.child.specs.Making.{
-  Made,
-  then,
-  grantedBy,
-  granting,
-  allItems,
-  childSwitches,
-  inserts,
-  reinserts,
-  takeOverActs,
-  takeOver,
-  firstChild,
-  completed,
-  createChild,
-}
+use Rattle.child.specs.Making.{Made, then, grantedBy, granting, allItems, inserts, reinserts, takeOverActs, takeOver, firstChild, completed, createChild}
 use Rattle.child.specs.Calls.{Creation, creation, childCall, actsIn, childLeft, childAfter, CreatesChild}
 use Rattle.child.proofs.MakingLaws.{then-stops, then-goes, grant-acted, grant-one}
 use Rattle.child.proofs.TakeOverLaws.{switches-fit}

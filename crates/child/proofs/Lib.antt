@@ -3,5 +3,6 @@ pub mod MakingLaws
 pub mod ItemLaws
 pub mod TakeOverLaws
 pub mod CreatingLaws
+pub mod AskedLaws
 pub mod ChildLaws
 pub mod KeepLaws

@@ -22,19 +22,7 @@ use Rattle.walk.specs.declared.PermissionState.{PermissionState}
 use Rattle.calls.specs.Decisions.{Decision, grantAct, passes}
 use Rattle.calls.specs.Calls.{actsIn}
 use Rattle.calls.proofs.FittingLaws.{grant-fits}
-use Rattle.child.specs.Making.{
-  Made,
-  nothing,
-  refusedBy,
-  onward,
-  then,
-  grantedBy,
-  granting,
-  countOf,
-  passedOn,
-  checked,
-  itemBy,
-}
+use Rattle.child.specs.Making.{Made, refusedBy, onward, then, grantedBy, granting, passedOn, checked, itemBy}
 use Rattle.child.specs.Steps.{MakesChild}
 
 -- ---- one step after the other

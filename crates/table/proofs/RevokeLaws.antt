@@ -9,21 +9,7 @@ use native.Mathlib.Nat.{add-zero}
 use lib.ListN.{length, getD, set, take, drop, length-append}
 use lib.Seq.{paste-zero, take-at, append-snoc, getD-drop}
 use Rattle.table.specs.Entries.{Entry, kindOf, isGranted}
-use Rattle.table.specs.Tables.{
-  Table,
-  has,
-  granted,
-  clearBit,
-  maxEntries,
-  maxSwitches,
-  pathBytes,
-  isEntry,
-  every,
-  any,
-  present,
-  marksOf,
-  isTable,
-}
+use Rattle.table.specs.Tables.{granted, clearBit, maxEntries}
 use Rattle.table.specs.Acts.{keptUnless, without, revokedBy, applyAct, setSwitches, revoke, revokeAll}
 use Rattle.table.specs.Changing.{droppedBy, dropping}
 use Rattle.table.specs.Memory.{

@@ -1,6 +1,5 @@
 // Carrying out the act that a call decided on, the only change of a table. Document 01, "A call comes in".
 use crate::Action;
-use crate::Kind;
 use crate::MAX_NUMBER;
 use crate::Numbering;
 use crate::Outcome;

@@ -1,6 +1,5 @@
 // Copying a table to other memory.
-use crate::reading::entry_offset;
-use crate::reading::word_at;
+use crate::listing::used;
 use paths::copying::copy_in;
 ghost use mathlib.Core.Path.{_≡_};
 ghost use mathlib.Core.Bool.{true};
@@ -13,7 +12,6 @@ pub fn copy_table(from: &[u8], to: &mut [u8])
     requires { ⌜ (holds (now from) ≡ true) × (tableBytes ≤ length (now to)) ⌝ }
     ensures { λ _. ⌜ now (to .exit) ≡ put (tableOf (now (from .entry))) (now (to .entry)) ⌝ }
 {
-    let count = word_at(from, 0);
-    let end = entry_offset(from, count);
+    let end = used(from);
     copy_in(to, 0, &from[0..end]);
 }

@@ -104,8 +104,8 @@ pub struct Cursor {
     left: usize,
 }
 
-// What stands at an offset of memory: an entry, with its kind and where its path begins and ends, or no whole entry.
-pub enum Part {
+// The entry at a place of a table's list: its kind, where its path begins in the memory and how many bytes it has; or no entry.
+pub enum Listed {
     Entry(Kind, usize, usize),
     Nothing,
 }

@@ -1,25 +1,13 @@
 // Writing into lent memory: each function writes a run of bytes from an offset on, and nothing else.
 use crate::ENTRY_HEAD;
 use crate::Kind;
+use crate::listing::kind_number;
 use paths::copying::copy_in;
 ghost use mathlib.Core.Path.{_≡_};
 ghost use Prim.Native.Nat.{_+_, _<_, _≤_};
 ghost use lib.ListN.{length, take, drop};
 ghost use Rattle.paths.specs.Copying.{overwrite};
-ghost use Rattle.table.specs.Entries.{kindNumber};
 ghost use Rattle.table.specs.Memory.{word, encodeEntry};
-
-// The kind byte of a kind.
-fn kind_number(kind: Kind) -> u8
-    ensures { λ r. ⌜ r ≡ kindNumber kind ⌝ }
-{
-    match kind {
-        Kind::G => 0,
-        Kind::D => 1,
-        Kind::P => 2,
-        Kind::I => 3,
-    }
-}
 
 // Moves n bytes to a higher offset, the last byte first.
 pub(crate) fn move_up(mem: &mut [u8], from: usize, to: usize, n: usize)

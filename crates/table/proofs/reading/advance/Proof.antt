@@ -3,10 +3,6 @@ use denote.Ref.{now}
 use native.Mathlib.Omega.{arith}
 use Rattle.table.specs.Reading.{nextEntry}
 use Rattle.table.proofs.ReadingLaws.{here, some-left}
-use denote.Ref.{now}
-use native.Mathlib.Omega.{arith}
-use Rattle.table.specs.Reading.{nextEntry}
-use Rattle.table.proofs.ReadingLaws.{here, some-left}
 use Rattle.table.proofs.reading.advance.Statement.{statement}
 use Rattle.table.proofs.reading.advance.Tie as tie
 

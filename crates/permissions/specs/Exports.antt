@@ -1,0 +1,128 @@
+-- The calls as the C program makes them: each keeps the promise of its call, and the numbers that C gets are those of what it answers. Lent numbers are
+-- always written. m and s are the lent memory and the lent text space, m′ and s′ the same after the call; r is the result.
+use Prim.Native.Nat.{ℕ}
+use mathlib.Core.Path.{_≡_}
+use mathlib.Core.List.{List}
+use lib.IntN.{ℤ, pos}
+use lib.ListN.{length}
+use Rattle.refusals.specs.Refusals.{Result, refused, ok}
+use Rattle.paths.specs.declared.Descriptor.{Descriptor}
+use Rattle.table.specs.declared.Outcome.{Outcome}
+use Rattle.table.specs.declared.Listed.{Listed}
+use Rattle.table.specs.declared.Listed.the-variants.{Nothing}
+use Rattle.table.specs.Tables.{Table}
+use Rattle.table.specs.Listing.{usedBytes, listed}
+use Rattle.table.specs.Calls.{tableIn, MakesFresh, SetsSwitches, Inserts}
+use Rattle.walk.specs.declared.Answer.{Answer}
+use Rattle.walk.specs.Calls.{queryAnswer}
+use Rattle.calls.specs.declared.Call.{Call}
+use Rattle.calls.specs.declared.Asked.{Asked}
+use Rattle.calls.specs.declared.Question.{Question}
+use Rattle.calls.specs.Calls.{Asks, Questions, Revokes}
+use Rattle.child.specs.declared.ChildMade.{ChildMade}
+use Rattle.child.specs.Calls.{CreatesChild}
+use Rattle.permissions.specs.Numbers.{
+  refusedNumber,
+  outcomeNumber,
+  answerNumber,
+  askedNumber,
+  questionNumber,
+  questionSize,
+  listedNumber,
+  listedKind,
+  listedStart,
+  listedSize,
+}
+
+-- ---- calls with one result
+
+-- a call keeps its promise, and r is the number of what it answers
+pub record Exported (A : Type 0) (numberOf : A → ℤ) (Promise : A → Type 0) (r : ℤ) : Type 0 where
+  pub answered : A
+  pub promise : Promise answered
+  pub number : r ≡ numberOf answered
+
+abbrev pub ExportedFresh : List ℕ → List ℕ → ℤ → Type 0
+ExportedFresh m m′ r = Exported Outcome outcomeNumber (MakesFresh m m′) r
+
+abbrev pub ExportedInsert : List ℕ → ℕ → List ℕ → List ℕ → List ℕ → ℤ → Type 0
+ExportedInsert m kind p cwd m′ r = Exported Outcome outcomeNumber (Inserts m kind p cwd m′) r
+
+abbrev pub ExportedSwitches : List ℕ → ℕ → List ℕ → ℤ → Type 0
+ExportedSwitches m v m′ r = Exported Outcome outcomeNumber (SetsSwitches m v m′) r
+
+abbrev pub ExportedQuery : List ℕ → ℕ → Descriptor → List ℕ → List ℕ → ℤ → Type 0
+ExportedQuery m mode d p cwd r = Exported Answer answerNumber (λ a. a ≡ queryAnswer m mode d p cwd) r
+
+abbrev pub ExportedRevoke : List ℕ → Descriptor → List ℕ → List ℕ → List ℕ → ℤ → Type 0
+ExportedRevoke m d p cwd m′ r = Exported Answer answerNumber (Revokes m d p cwd m′) r
+
+-- ---- calls with more than one
+
+-- whether the operator was asked, and the text's size
+pub record ExportedAsk (call : Call) (m s : List ℕ) (d : Descriptor) (p cwd : List ℕ) (response : ℕ) (m′ s′ : List ℕ) (told size : ℕ) (r : ℤ) : Type 0 where
+  pub answered : Asked
+  pub promise : Asks call m s d p cwd response m′ s′ answered
+  pub number : r ≡ answerNumber (answered .answer)
+  pub asked : told ≡ askedNumber (answered .asked)
+  pub text : size ≡ answered .text
+
+-- the size of the question
+pub record ExportedQuestion (call : Call) (m s : List ℕ) (d : Descriptor) (p cwd s′ : List ℕ) (size : ℕ) (r : ℤ) : Type 0 where
+  pub answered : Question
+  pub promise : Questions call m s d p cwd s′ answered
+  pub number : r ≡ questionNumber answered
+  pub text : size ≡ questionSize answered
+
+-- how often the operator was asked
+pub record ExportedChild (m c : List ℕ) (code : ℕ) (bytes ends responses cwd m′ c′ : List ℕ) (told : ℕ) (r : ℤ) : Type 0 where
+  pub answered : ChildMade
+  pub promise : CreatesChild m c code bytes ends responses cwd m′ c′ answered
+  pub number : r ≡ outcomeNumber (answered .outcome)
+  pub asked : told ≡ answered .asked
+
+-- ---- reading a table: 1, and then what it has
+
+-- the bytes that it takes
+unfoldable pub usedIn : Result Table → ℤ
+usedIn (refused cause) = refusedNumber cause
+usedIn (ok t) = pos (usedBytes t)
+
+abbrev pub ExportedUsed : List ℕ → ℤ → Type 0
+ExportedUsed m r = r ≡ usedIn (tableIn m)
+
+-- a number of the table, or 0 where there is none
+unfoldable pub numberIn : (Table → ℕ) → Result Table → ℕ
+numberIn of (refused cause) = 0
+numberIn of (ok t) = of t
+
+unfoldable pub readIn : Result Table → ℤ
+readIn (refused cause) = refusedNumber cause
+readIn (ok t) = pos 0
+
+pub record ExportedHead (m : List ℕ) (count switches marks : ℕ) (r : ℤ) : Type 0 where
+  pub number : r ≡ readIn (tableIn m)
+  pub entries : count ≡ numberIn (λ t. length (t .entries)) (tableIn m)
+  pub set : switches ≡ numberIn (λ t. t .switches) (tableIn m)
+  pub marked : marks ≡ numberIn (λ t. t .marks) (tableIn m)
+
+-- what stands at a place of the list
+pub record TellsListed (p : Listed) (kind at size : ℕ) (r : ℤ) : Type 0 where
+  pub number : r ≡ listedNumber p
+  pub kind-is : kind ≡ listedKind p
+  pub start : at ≡ listedStart p
+  pub long : size ≡ listedSize p
+
+unfoldable pub listedIn : Result Table → Listed → Listed
+listedIn (refused cause) p = Nothing
+listedIn (ok t) p = p
+
+unfoldable pub listedNumberIn : Result Table → Listed → ℤ
+listedNumberIn (refused cause) p = refusedNumber cause
+listedNumberIn (ok t) p = listedNumber p
+
+pub record ExportedEntry (m : List ℕ) (place kind at size : ℕ) (r : ℤ) : Type 0 where
+  pub number : r ≡ listedNumberIn (tableIn m) (listed m place)
+  pub kind-is : kind ≡ listedKind (listedIn (tableIn m) (listed m place))
+  pub start : at ≡ listedStart (listedIn (tableIn m) (listed m place))
+  pub long : size ≡ listedSize (listedIn (tableIn m) (listed m place))

@@ -1,0 +1,63 @@
+-- The numbers that the C program gets. Document 01, "A call comes in": a refusal returns its number; states carry the Rust's numbers.
+use Prim.Native.Nat.{ℕ}
+use mathlib.Core.Bool.{Bool, true, false}
+use lib.IntN.{ℤ, pos, negℤ}
+use Rattle.refusals.specs.declared.Refusal.{Refusal}
+use Rattle.refusals.specs.Refusals.{refusalNumber}
+use Rattle.table.specs.declared.Outcome.{Outcome}
+use Rattle.table.specs.declared.Outcome.the-variants as outcome
+use Rattle.table.specs.declared.Listed.{Listed}
+use Rattle.table.specs.declared.Listed.the-variants as listed
+use Rattle.table.specs.Entries.{kindNumber}
+use Rattle.walk.specs.declared.Answer.{Answer}
+use Rattle.walk.specs.declared.Answer.the-variants as answer
+use Rattle.walk.specs.Walk.{stateNumber}
+use Rattle.calls.specs.declared.Question.{Question}
+use Rattle.calls.specs.declared.Question.the-variants as question
+
+-- refusal n is −n
+abbrev pub refusedNumber : Refusal → ℤ
+refusedNumber cause = negℤ (pos (refusalNumber cause))
+
+-- 0, or a refusal
+abbrev pub outcomeNumber : Outcome → ℤ
+outcomeNumber outcome.Done = pos 0
+outcomeNumber (outcome.Refused cause) = refusedNumber cause
+
+-- the state's number, or a refusal; a check that passes answers Granted, and no other does, so 0 means that it passes
+abbrev pub answerNumber : Answer → ℤ
+answerNumber (answer.State state) = pos (stateNumber state)
+answerNumber (answer.Refused cause) = refusedNumber cause
+
+-- 1 if the operator was asked
+abbrev pub askedNumber : Bool → ℕ
+askedNumber true = 1
+askedNumber false = 0
+
+-- 1 if the operator would be asked, 0 if not, or a refusal; and how many bytes the question has
+abbrev pub questionNumber : Question → ℤ
+questionNumber (question.Asks n) = pos 1
+questionNumber question.AsksNothing = pos 0
+questionNumber (question.Refused cause) = refusedNumber cause
+
+abbrev pub questionSize : Question → ℕ
+questionSize (question.Asks n) = n
+questionSize question.AsksNothing = 0
+questionSize (question.Refused cause) = 0
+
+-- what stands at a place of a list: 1 if an entry is there, else 0; its kind's number, where its path begins, and how many bytes the path has
+abbrev pub listedNumber : Listed → ℤ
+listedNumber (listed.Entry kind start size) = pos 1
+listedNumber listed.Nothing = pos 0
+
+abbrev pub listedKind : Listed → ℕ
+listedKind (listed.Entry kind start size) = kindNumber kind
+listedKind listed.Nothing = 0
+
+abbrev pub listedStart : Listed → ℕ
+listedStart (listed.Entry kind start size) = start
+listedStart listed.Nothing = 0
+
+abbrev pub listedSize : Listed → ℕ
+listedSize (listed.Entry kind start size) = size
+listedSize listed.Nothing = 0

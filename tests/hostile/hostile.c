@@ -1,0 +1,869 @@
+/* Random calls of every function in permissions.h with hostile input, each held against a model of document 01.
+ *
+ * After every call the result and every byte of every lent area must be what the model says, so a refusal that changed a
+ * byte, a byte behind a table or a text, and a number that was not written all show. Every area ends at a page that can
+ * neither be read nor written, so a call that leaves its areas ends the program. */
+#define _DEFAULT_SOURCE
+#include "areas.h"
+#include "make.h"
+#include "model.h"
+#include "permissions.h"
+
+#include <signal.h>
+#include <stdarg.h>
+#include <stdio.h>
+#include <stdlib.h>
+#include <string.h>
+#include <unistd.h>
+
+enum { EXTRA_BYTES = 4096, SLOTS = 12, GREATEST_CAUSE = 11, GREATEST_STATE = 5, PATIENCE_SECONDS = 120 };
+
+/* ---- the functions, and which results the header names for each */
+
+enum {
+    FRESH, INSERT, SET_SWITCHES, QUERY, QUERY_ALL, CHECK_ASKS, CHECK_PATH, CHECK_ALL_ASKS, CHECK_ALL, REQUEST_ASKS,
+    REQUEST_PATH, REQUEST_ALL_ASKS, REQUEST_ALL, REVOKE, REVOKE_ALL, MAKE_CHILD, USED, HEAD, ENTRY, FUNCTIONS
+};
+
+#define CAUSE(n) (1u << (n))
+#define CAUSES(from, to) ((2u << (to)) - (1u << (from)))
+
+static const struct {
+    const char *name;
+    uint32_t causes;
+    int32_t least, greatest; /* of a call that is not refused */
+} functions[FUNCTIONS] = {
+    [FRESH] = {"fresh", CAUSE(1), 0, 0},
+    [INSERT] = {"insert", CAUSE(1) | CAUSES(3, 8), 0, 0},
+    [SET_SWITCHES] = {"switches", CAUSE(1) | CAUSE(3), 0, 0},
+    [QUERY] = {"query", CAUSE(1) | CAUSES(3, 7), 0, 5},
+    [QUERY_ALL] = {"query_all", CAUSE(1) | CAUSE(3), 0, 5},
+    [CHECK_ASKS] = {"check_asks", CAUSES(1, 2) | CAUSES(4, 7), 0, 1},
+    [CHECK_PATH] = {"check", CAUSES(1, 8), 0, 5},
+    [CHECK_ALL_ASKS] = {"check_all_asks", CAUSES(1, 2), 0, 1},
+    [CHECK_ALL] = {"check_all", CAUSES(1, 3), 0, 5},
+    [REQUEST_ASKS] = {"request_asks", CAUSES(1, 2) | CAUSES(4, 7), 0, 1},
+    [REQUEST_PATH] = {"request", CAUSES(1, 8), 0, 5},
+    [REQUEST_ALL_ASKS] = {"request_all_asks", CAUSES(1, 2), 0, 1},
+    [REQUEST_ALL] = {"request_all", CAUSES(1, 3), 0, 5},
+    [REVOKE] = {"revoke", CAUSE(1) | CAUSES(4, 7), 0, 5},
+    [REVOKE_ALL] = {"revoke_all", CAUSE(1), 0, 5},
+    [MAKE_CHILD] = {"child", CAUSE(1) | CAUSES(3, 8) | CAUSE(10), 0, 0},
+    [USED] = {"used", CAUSE(1), 4, TABLE_BYTES},
+    [HEAD] = {"head", CAUSE(1), 0, 0},
+    [ENTRY] = {"entry", CAUSE(1), 0, 1},
+};
+
+/* ---- what has happened so far */
+
+static unsigned long calls, call_limit = 100000, seed = 1;
+static unsigned long answers_seen[FUNCTIONS][GREATEST_STATE + 2]; /* the last is for greater results */
+static unsigned long causes_seen[FUNCTIONS][GREATEST_CAUSE + 1];
+static unsigned long tables_seen, none_seen, full_by_entries, full_by_bytes, refused_by_entries, refused_by_bytes;
+static int current; /* the function that runs */
+
+static void violation(const char *format, ...)
+{
+    va_list values;
+
+    printf("hostile: call %lu, seed %lu, permissions_%s: ", calls, seed, functions[current].name);
+    va_start(values, format);
+    vprintf(format, values);
+    va_end(values);
+    printf("\n");
+    fflush(stdout);
+    _exit(1);
+}
+
+/* A signal comes from the library alone, which holds no lock of libc's, so printing is safe enough. */
+static void stopped(int number)
+{
+    if (number == SIGALRM)
+        violation("does not end");
+    violation("a byte outside the lent areas, or a trap (signal %d)", number);
+}
+
+static void watch_signals(void)
+{
+    static const int watched[] = {SIGSEGV, SIGBUS, SIGILL, SIGFPE, SIGABRT, SIGALRM};
+    for (size_t i = 0; i < sizeof watched / sizeof watched[0]; i++)
+        signal(watched[i], stopped);
+}
+
+/* ---- the tables, and the one that a call gets */
+
+static struct slot {
+    uint8_t bytes[TABLE_BYTES + EXTRA_BYTES];
+    int style;
+} slots[SLOTS];
+
+static struct turn {
+    struct slot *slot;
+    void *memory; /* what is handed in, as for the other areas */
+    size_t memory_size;
+    int holds;
+    struct table table, after; /* by the model */
+    struct bytes given, directory;
+    struct path resolved;
+    struct bytes path; /* as resolved */
+    int cause;         /* of the path: 0, or 4 to 7 */
+    void *text;
+    size_t text_space;
+} turn;
+
+static uint32_t number_in(int area)
+{
+    uint32_t number;
+    memcpy(&number, areas[area].start, sizeof number);
+    return number;
+}
+
+static size_t size_in(int area)
+{
+    size_t number;
+    memcpy(&number, areas[area].start, sizeof number);
+    return number;
+}
+
+static void want_number(int area, uint32_t number)
+{
+    memcpy(wanted(area), &number, sizeof number);
+}
+
+static void want_size(int area, size_t number)
+{
+    memcpy(wanted(area), &number, sizeof number);
+}
+
+/* The memory must hold this table, and behind it what was there. */
+static void want_table(int area, const struct table *table)
+{
+    model_writes(table, wanted(area));
+}
+
+#ifdef BREAK
+enum { MOST_ARGUMENTS = 4 };
+#include "broken.h"
+#else
+enum { MOST_ARGUMENTS = 3 };
+#endif
+
+/* ---- after a call */
+
+static void count_result(int32_t result)
+{
+    if (result < 0)
+        causes_seen[current][-result]++;
+    else
+        answers_seen[current][result > GREATEST_STATE ? GREATEST_STATE + 1 : result]++;
+    if (result == -8 && current != MAKE_CHILD) {
+        refused_by_entries += turn.table.count == MAX_ENTRIES;
+        refused_by_bytes += turn.table.count < MAX_ENTRIES;
+    }
+}
+
+static void explain_difference(const struct area *area, long position, int32_t result)
+{
+    const char *why = "is not what document 01 says";
+
+    if (position < 0)
+        why = "lies before its start and has changed";
+    else if (area != &areas[MEMORY] && area != &areas[CHILD] && area != &areas[TEXT] && area < &areas[NUMBER])
+        why = "has changed, though it is only read";
+    else if (result < 0 && area < &areas[NUMBER])
+        why = "has changed, though the call is refused";
+    else if (area == &areas[MEMORY] && (size_t)position >= model_used(&turn.after))
+        why = "has changed, though it lies behind the table";
+    violation("result %d: byte %ld of the %s %s", (int)result, position, area->name, why);
+}
+
+/* What the header says of every result, whatever the model. */
+static void hold_to_header(int32_t result)
+{
+    int32_t cause = result < 0 ? -result : 0;
+
+    if (cause > GREATEST_CAUSE || (cause > 0 && (functions[current].causes >> cause & 1) == 0))
+        violation("refusal %d is none of its causes", (int)cause);
+    if (cause == 0 && (result < functions[current].least || result > functions[current].greatest))
+        violation("result %d is none of its answers", (int)result);
+    if ((current == CHECK_PATH || current == CHECK_ALL) && result == GRANTED_PARTIAL)
+        violation("fails with state %d", (int)result);
+}
+
+/* The result and every lent byte must be as expected. */
+static void hold_to_model(int32_t result, int32_t expected)
+{
+    const struct area *area;
+    long position;
+
+    if (result != expected)
+        violation("result %d, expected %d", (int)result, (int)expected);
+    area = find_difference(&position);
+    if (area != NULL)
+        explain_difference(area, position, result);
+}
+
+/* Looks at what a call did; its result. */
+static int32_t settle(int32_t result, int32_t expected)
+{
+#ifdef BREAK
+    result = broken(result);
+    if (is_without_model())
+        return result;
+#endif
+    hold_to_header(result);
+    hold_to_model(result, expected);
+    count_result(result);
+    return result;
+}
+
+/* Counts a call that is about to be made. */
+static void next(int function)
+{
+    current = function;
+    calls++;
+}
+
+/* What stays in the slot is a table: what a call did to memory that holds none is nothing. */
+static void keep_table(void)
+{
+    static struct table kept;
+
+    if (!turn.holds)
+        return;
+    if (!model_reads(areas[MEMORY].start, turn.memory_size, &kept))
+        violation("memory that held a table holds none");
+    memcpy(turn.slot->bytes, areas[MEMORY].start, turn.memory_size);
+}
+
+/* ---- lending */
+
+static size_t table_memory_size(void)
+{
+    if (!one_in(24))
+        return one_in(2) ? TABLE_BYTES : TABLE_BYTES + below(one_in(2) ? 9 : EXTRA_BYTES + 1);
+    switch (below(4)) {
+    case 0: return TABLE_BYTES - 1;
+    case 1: return 0;
+    case 2: return below(9);
+    default: return below(TABLE_BYTES);
+    }
+}
+
+static void lend_memory(void)
+{
+    turn.slot = &slots[below(SLOTS)];
+    if (one_in(40))
+        make_table(turn.slot->bytes, turn.slot->style);
+    turn.memory_size = table_memory_size();
+    turn.memory = lend(MEMORY, turn.slot->bytes, turn.memory_size);
+    if (turn.memory_size >= TABLE_BYTES && one_in(10)) {
+        make_damage(areas[MEMORY].start, turn.memory_size);
+        memcpy(wanted(MEMORY), areas[MEMORY].start, turn.memory_size);
+    }
+    turn.holds = model_reads(areas[MEMORY].start, turn.memory_size, &turn.table);
+    turn.after = turn.table;
+    tables_seen += (unsigned long)turn.holds;
+    none_seen += !turn.holds;
+    full_by_entries += turn.holds && turn.table.count == MAX_ENTRIES;
+    full_by_bytes += turn.holds && turn.table.sum > MAX_SUM - MAX_PATH;
+}
+
+static void resolve_given(void)
+{
+    turn.cause = model_resolve(turn.given, turn.directory, &turn.resolved);
+    turn.path.start = turn.resolved.bytes;
+    turn.path.size = turn.resolved.size;
+}
+
+/* A path that is in the table, or next below or above one there. */
+static size_t path_in_table(uint8_t *path)
+{
+    struct bytes there = turn.table.entries[below((uint32_t)turn.table.count)].path;
+    size_t size = there.size;
+
+    memcpy(path, there.start, size);
+    if (one_in(3)) {
+        memcpy(path + size, "/b", 2);
+        size += 2;
+    } else if (one_in(3)) {
+        while (size > 1 && path[size - 1] != '/')
+            size--;
+    }
+    return size;
+}
+
+static void lend_path(void)
+{
+    uint8_t path[LONGEST_PATH], directory[LONGEST_PATH];
+
+    turn.given.size = turn.holds && turn.table.count > 0 && one_in(5) ? path_in_table(path) : make_path(path, turn.slot->style);
+    turn.given.start = lend(PATH, path, turn.given.size);
+    turn.directory.size = make_directory(directory);
+    turn.directory.start = lend(DIRECTORY, directory, turn.directory.size);
+    if (one_in(32))
+        turn.directory = turn.given; /* areas that are only read may overlap */
+    resolve_given();
+}
+
+/* For a call that only reads its memory, the path may lie in there. */
+static void point_into_memory(void)
+{
+    if (turn.memory_size == 0 || !one_in(12))
+        return;
+    turn.given.size = below((uint32_t)(turn.memory_size < 64 ? turn.memory_size : 64));
+    turn.given.start = areas[MEMORY].start + below((uint32_t)(turn.memory_size - turn.given.size));
+    if (turn.holds && turn.table.count > 0)
+        turn.given = turn.table.entries[below((uint32_t)turn.table.count)].path;
+    resolve_given();
+}
+
+static size_t text_space(void)
+{
+    static const size_t sizes[] = {TEXT_BYTES - 1, 0, 1, 11, 1024, TEXT_BYTES + 1, 2 * TEXT_BYTES, 8192};
+    return one_in(6) ? sizes[below(sizeof sizes / sizeof sizes[0])] : TEXT_BYTES + below(2);
+}
+
+/* ---- a table: fresh, insert, switches, used, head, entry */
+
+static void run_fresh(void)
+{
+    static const uint8_t fresh[4] = {0};
+    int32_t expected = -1;
+
+    turn.holds = 0;
+    turn.slot = &slots[below(SLOTS)];
+    turn.memory_size = table_memory_size();
+    turn.memory = lend(MEMORY, NULL, turn.memory_size);
+    if (turn.memory_size >= TABLE_BYTES) {
+        memcpy(wanted(MEMORY), fresh, sizeof fresh);
+        turn.holds = 1;
+        expected = 0;
+    }
+    next(FRESH);
+    (void)settle(permissions_fresh(turn.memory, turn.memory_size), expected);
+    turn.slot->style = (int)below(STYLES);
+    keep_table();
+}
+
+static void run_insert(void)
+{
+    uint32_t kind = make_number(KINDS);
+    int32_t expected = -1;
+
+    lend_memory();
+    lend_path();
+    if (turn.holds && kind >= KINDS)
+        expected = -3;
+    else if (turn.holds && turn.cause != 0)
+        expected = -turn.cause;
+    else if (turn.holds)
+        expected = model_insert(&turn.after, kind, turn.path);
+    if (expected == 0)
+        want_table(MEMORY, &turn.after);
+    next(INSERT);
+    (void)settle(permissions_insert(turn.memory, turn.memory_size, kind, turn.given.start, turn.given.size,
+                              turn.directory.start, turn.directory.size), expected);
+    keep_table();
+}
+
+static void run_switches(void)
+{
+    uint32_t switches = one_in(3) ? make_number(SWITCHES) : SWITCH_PROMPT | below(2); /* 16 lets calls ask */
+    int32_t expected = -1;
+
+    lend_memory();
+    if (turn.holds)
+        expected = switches >= SWITCHES ? -3 : 0;
+    if (expected == 0) {
+        turn.after.switches = switches;
+        want_table(MEMORY, &turn.after);
+    }
+    next(SET_SWITCHES);
+    (void)settle(permissions_switches(turn.memory, turn.memory_size, switches), expected);
+    keep_table();
+}
+
+static void run_used(void)
+{
+    lend_memory();
+    next(USED);
+    (void)settle(permissions_used(turn.memory, turn.memory_size), turn.holds ? (int32_t)model_used(&turn.table) : -1);
+    keep_table();
+}
+
+static void run_head(void)
+{
+    uint32_t *numbers[3];
+
+    lend_memory();
+    for (int i = 0; i < 3; i++)
+        numbers[i] = lend(NUMBER + i, NULL, sizeof *numbers[i]);
+    want_number(NUMBER, turn.holds ? (uint32_t)turn.table.count : 0);
+    want_number(NUMBER_2, turn.holds ? turn.table.switches : 0);
+    want_number(NUMBER_3, turn.holds ? turn.table.marks : 0);
+    next(HEAD);
+    (void)settle(permissions_head(turn.memory, turn.memory_size, numbers[0], numbers[1], numbers[2]), turn.holds ? 0 : -1);
+    keep_table();
+}
+
+static void run_entry(void)
+{
+    uint32_t place;
+    uint32_t *kind = lend(NUMBER, NULL, sizeof *kind);
+    size_t *path_start = lend(NUMBER_2, NULL, sizeof *path_start), *path_size = lend(NUMBER_3, NULL, sizeof *path_size);
+    int32_t expected = -1;
+
+    lend_memory();
+    place = make_number((uint32_t)(turn.holds ? turn.table.count : 0) + 2);
+    want_number(NUMBER, 0);
+    want_size(NUMBER_2, 0);
+    want_size(NUMBER_3, 0);
+    if (turn.holds)
+        expected = place < turn.table.count ? 1 : 0;
+    if (expected == 1) {
+        want_number(NUMBER, turn.table.entries[place].kind);
+        want_size(NUMBER_2, (size_t)(turn.table.entries[place].path.start - areas[MEMORY].start));
+        want_size(NUMBER_3, turn.table.entries[place].path.size);
+    }
+    next(ENTRY);
+    (void)settle(permissions_entry(turn.memory, turn.memory_size, place, kind, path_start, path_size), expected);
+    keep_table();
+}
+
+/* ---- query and revoke */
+
+static int32_t query(uint32_t mode, int with_path)
+{
+    int32_t expected = -1, result;
+
+    if (turn.holds && mode >= MODES)
+        expected = -3;
+    else if (turn.holds && with_path && turn.cause != 0)
+        expected = -turn.cause;
+    else if (turn.holds)
+        expected = model_query(&turn.table, mode, with_path ? &turn.path : NULL);
+    next(with_path ? QUERY : QUERY_ALL);
+    if (with_path)
+        result = permissions_query(turn.memory, turn.memory_size, mode, turn.given.start, turn.given.size,
+                                   turn.directory.start, turn.directory.size);
+    else
+        result = permissions_query_all(turn.memory, turn.memory_size, mode);
+    return settle(result, expected);
+}
+
+static void run_query(void)
+{
+    int with_path = !one_in(4);
+
+    lend_memory();
+    if (with_path) {
+        lend_path();
+        point_into_memory();
+    }
+    (void)query(make_number(MODES), with_path);
+    keep_table();
+}
+
+static void run_revoke(void)
+{
+    int with_path = !one_in(5);
+    int32_t expected = -1, result;
+
+    lend_memory();
+    if (with_path)
+        lend_path();
+    if (turn.holds && with_path && turn.cause != 0)
+        expected = -turn.cause;
+    else if (turn.holds)
+        expected = model_revoke(&turn.after, with_path ? &turn.path : NULL);
+    if (expected >= 0)
+        want_table(MEMORY, &turn.after);
+    next(with_path ? REVOKE : REVOKE_ALL);
+    if (with_path)
+        result = permissions_revoke(turn.memory, turn.memory_size, turn.given.start, turn.given.size,
+                                    turn.directory.start, turn.directory.size);
+    else
+        result = permissions_revoke_all(turn.memory, turn.memory_size);
+    (void)settle(result, expected);
+    keep_table();
+}
+
+/* ---- check and request */
+
+struct asking {
+    int call, with_path;
+    uint32_t answer;
+};
+
+/* What a call would ask, as the library said. */
+struct question {
+    int32_t result;
+    size_t size;
+    uint8_t text[TEXT_BYTES];
+};
+
+/* Refusals 1, 2 and 4 to 7; 3 comes between. */
+static int32_t refused_by_arguments(const struct asking *asking)
+{
+    if (!turn.holds)
+        return -1;
+    if (turn.text_space < TEXT_BYTES)
+        return -2;
+    if (asking->answer >= ANSWERS)
+        return -3;
+    return asking->with_path ? -turn.cause : 0;
+}
+
+/* Lends a text space, full of noise. */
+static size_t *lend_text(void)
+{
+    turn.text = lend(TEXT, NULL, turn.text_space);
+    return lend(NUMBER_2, NULL, sizeof(size_t));
+}
+
+static void want_text(const struct asking *asking, int written)
+{
+    uint8_t text[TEXT_BYTES + 4];
+    size_t size = 0;
+
+    if (written)
+        size = model_text(asking->with_path ? &turn.given : NULL, &turn.resolved, text);
+    memcpy(wanted(TEXT), text, size);
+    want_size(NUMBER_2, size);
+}
+
+static int32_t call_asks(const struct asking *asking, size_t *text_size)
+{
+    const void *memory = turn.memory, *path = turn.given.start, *directory = turn.directory.start;
+    size_t size = turn.memory_size, path_size = turn.given.size, directory_size = turn.directory.size;
+
+    next((asking->call == CHECK ? CHECK_ASKS : REQUEST_ASKS) + (asking->with_path ? 0 : CHECK_ALL_ASKS - CHECK_ASKS));
+    switch (current) {
+    case CHECK_ASKS:
+        return permissions_check_asks(memory, size, path, path_size, directory, directory_size, turn.text, turn.text_space,
+                                      text_size);
+    case REQUEST_ASKS:
+        return permissions_request_asks(memory, size, path, path_size, directory, directory_size, turn.text,
+                                        turn.text_space, text_size);
+    case CHECK_ALL_ASKS:
+        return permissions_check_all_asks(memory, size, turn.text, turn.text_space, text_size);
+    default:
+        return permissions_request_all_asks(memory, size, turn.text, turn.text_space, text_size);
+    }
+}
+
+/* Asks whether the call would ask; it takes no answer, so any will do. */
+static void put_question(struct asking asking, struct question *question)
+{
+    size_t *text_size = lend_text();
+    int32_t expected;
+
+    asking.answer = DENY;
+    expected = refused_by_arguments(&asking);
+    if (expected == 0)
+        expected = model_asks(&turn.table, asking.call, asking.with_path ? &turn.path : NULL);
+    want_text(&asking, expected == 1);
+    question->result = settle(call_asks(&asking, text_size), expected);
+    question->size = size_in(NUMBER_2);
+    if (question->size > TEXT_BYTES || (question->size > 0) != (question->result == 1))
+        violation("a question of %zu bytes", question->size);
+    memcpy(question->text, areas[TEXT].start, question->size);
+}
+
+static int32_t call_ask(const struct asking *asking, uint32_t *asked, size_t *text_size)
+{
+    void *memory = turn.memory;
+    const void *path = turn.given.start, *directory = turn.directory.start;
+    size_t size = turn.memory_size, path_size = turn.given.size, directory_size = turn.directory.size;
+
+    next((asking->call == CHECK ? CHECK_PATH : REQUEST_PATH) + (asking->with_path ? 0 : CHECK_ALL - CHECK_PATH));
+    switch (current) {
+    case CHECK_PATH:
+        return permissions_check(memory, size, path, path_size, directory, directory_size, asking->answer, turn.text,
+                                 turn.text_space, asked, text_size);
+    case REQUEST_PATH:
+        return permissions_request(memory, size, path, path_size, directory, directory_size, asking->answer, turn.text,
+                                   turn.text_space, asked, text_size);
+    case CHECK_ALL:
+        return permissions_check_all(memory, size, asking->answer, turn.text, turn.text_space, asked, text_size);
+    default:
+        return permissions_request_all(memory, size, asking->answer, turn.text, turn.text_space, asked, text_size);
+    }
+}
+
+static int32_t ask(const struct asking *asking)
+{
+    size_t *text_size = lend_text();
+    uint32_t *asked = lend(NUMBER, NULL, sizeof *asked);
+    uint32_t asked_expected = 0;
+    int32_t expected = refused_by_arguments(asking);
+
+    if (expected == 0)
+        expected = model_ask(&turn.after, asking->call, asking->with_path ? &turn.path : NULL, asking->answer,
+                             &asked_expected);
+    if (expected >= 0)
+        want_table(MEMORY, &turn.after);
+    want_number(NUMBER, asked_expected);
+    want_text(asking, asked_expected == 1 || (asking->call == CHECK && expected > 0));
+    return settle(call_ask(asking, asked, text_size), expected);
+}
+
+/* The question and the call agree, whatever the model; only 3 and 8 can come between. */
+static void hold_to_question(int32_t result, const struct question *question)
+{
+    uint32_t asked = number_in(NUMBER);
+    size_t size = size_in(NUMBER_2);
+
+    if (asked > 1 || size > TEXT_BYTES)
+        violation("asked %u times, with a text of %zu bytes", (unsigned)asked, size);
+    if (size > 0 && (size < 11 || memcmp(areas[TEXT].start, "read access", 11) != 0))
+        violation("a text of %zu bytes that does not begin with its words", size);
+    if (result == -3 || result == -8)
+        return;
+    if (result < 0 ? question->result != result : question->result != (int32_t)asked)
+        violation("the question before it said %d", (int)question->result);
+    if (asked == 1 && (size != question->size || memcmp(areas[TEXT].start, question->text, size) != 0))
+        violation("the question before it had another text, of %zu bytes", question->size);
+}
+
+/* A question, a query in the call's mode and the call, on one table and with the same arguments. */
+static void run_ask(void)
+{
+    static struct question question;
+    struct asking asking = {one_in(2) ? CHECK : REQUEST, !one_in(5), make_number(ANSWERS)};
+    int32_t state, result;
+
+    lend_memory();
+    if (asking.with_path)
+        lend_path();
+    turn.text_space = text_space();
+    put_question(asking, &question);
+    areas[TEXT].lent = areas[NUMBER_2].lent = 0;
+    state = query(asking.call == REQUEST ? MODE_PARTIAL : asking.with_path ? MODE_DENIED : MODE_GRANTED, asking.with_path);
+    result = ask(&asking);
+    hold_to_question(result, &question);
+    if (result == 0 && state != GRANTED && (number_in(NUMBER) == 0 || asking.answer == DENY))
+        violation("granted, though the query said %d and nobody said yes", (int)state);
+    keep_table();
+}
+
+/* ---- child */
+
+/* Items as they should be: their bytes, end positions and answers. */
+static struct items {
+    uint8_t bytes[72 * LONGEST_PATH];
+    uint32_t ends[80], answers[80];
+    size_t size, ends_count, answers_count;
+} made;
+
+static void make_items(uint32_t code)
+{
+    size_t count = one_in(16) ? 60 + below(11) : below(one_in(3) ? 20 : 4);
+
+    made.size = made.ends_count = 0;
+    while (code == LIST && made.ends_count < count) {
+        uint8_t *item = made.bytes + made.size;
+        made.size += turn.holds && turn.table.count > 0 && one_in(2) ? path_in_table(item) : make_path(item, turn.slot->style);
+        made.ends[made.ends_count++] = (uint32_t)made.size;
+    }
+    made.answers_count = code == LIST ? made.ends_count : code == CHILD_GRANTED;
+    for (size_t i = 0; i < 80; i++)
+        made.answers[i] = one_in(3) ? below(ANSWERS) : ALLOW;
+}
+
+/* Items without a list, positions that fall, lie or do not close, answers that are too many, too few or unknown. */
+static void spoil_items(void)
+{
+    uint32_t *end = &made.ends[below((uint32_t)made.ends_count + 1)];
+
+    switch (below(8)) {
+    case 0: made.answers_count += 1 + below(5); break;
+    case 1: made.answers_count -= made.answers_count > 0; break;
+    case 2: made.answers[below((uint32_t)made.answers_count + 1)] = make_number(ANSWERS); break;
+    case 3: made.size += 1 + below(9); break;
+    case 4: made.size -= made.size > 0; break;
+    case 5: *end = one_in(2) ? UINT32_MAX : (uint32_t)made.size + 1; break;
+    case 6: *end = below((uint32_t)made.size + 1); break;
+    default: made.ends[made.ends_count++] = (uint32_t)made.size; break;
+    }
+}
+
+static void lend_items(struct child_call *call)
+{
+    uint8_t directory[LONGEST_PATH];
+
+    make_items(call->code);
+    if (one_in(6))
+        spoil_items();
+    call->items.size = made.size;
+    call->items.start = lend(ITEMS, made.bytes, made.size);
+    call->ends_count = made.ends_count;
+    call->ends = lend(ENDS, made.ends, made.ends_count * sizeof made.ends[0]);
+    call->answers_count = made.answers_count;
+    call->answers = lend(RESPONSES, made.answers, made.answers_count * sizeof made.answers[0]);
+    call->directory.size = make_directory(directory);
+    call->directory.start = lend(DIRECTORY, directory, call->directory.size);
+}
+
+/* What the call must leave in both memories; its result. After 4 and on the child is fresh, and the parent keeps what
+ * came before. */
+static int32_t want_child(const struct child_call *call, size_t child_size)
+{
+    static struct table child;
+    uint32_t asked = 0;
+    int32_t expected = turn.holds && child_size >= TABLE_BYTES ? model_child_arguments(call) : -1;
+
+    if (expected == 0) {
+        expected = model_child(&turn.after, &child, call, &asked);
+        want_table(MEMORY, &turn.after);
+        if (expected != 0) {
+            memset(wanted(CHILD), 0, 4);
+            areas[CHILD].open_from = 4;
+            areas[CHILD].open_to = TABLE_BYTES;
+        } else {
+            want_table(CHILD, &child);
+        }
+    }
+    want_number(NUMBER, asked);
+    return expected;
+}
+
+static void run_child(void)
+{
+    static struct table kept;
+    struct child_call call;
+    size_t child_size = table_memory_size();
+    void *child = lend(CHILD, NULL, child_size);
+    uint32_t *asked = lend(NUMBER, NULL, sizeof *asked);
+    int32_t expected, result;
+
+    lend_memory();
+    call.code = one_in(2) ? LIST : make_number(CODES);
+    lend_items(&call);
+    expected = want_child(&call, child_size);
+    next(MAKE_CHILD);
+    result = permissions_child(turn.memory, turn.memory_size, child, child_size, call.code, call.items.start, call.items.size,
+                               call.ends, call.ends_count, call.answers, call.answers_count, call.directory.start,
+                               call.directory.size, asked);
+    result = settle(result, expected);
+    if (number_in(NUMBER) > (call.code == CHILD_GRANTED ? 1 : call.ends_count))
+        violation("asked %u times", (unsigned)number_in(NUMBER));
+    if (result != -1 && result != -3 && !model_reads(areas[CHILD].start, child_size, &kept))
+        violation("the child's memory holds no table");
+    keep_table();
+    if (result == 0 && one_in(4))
+        memcpy(slots[below(SLOTS)].bytes, areas[CHILD].start, child_size);
+}
+
+/* ---- the run */
+
+static void run_turn(void)
+{
+    static void (*const turns[])(void) = {run_insert, run_insert, run_insert, run_ask,      run_ask,  run_ask,  run_query,
+                                          run_revoke, run_child,  run_child,  run_switches, run_used, run_head, run_entry};
+    void (*run)(void) = one_in(80) ? run_fresh : turns[below(sizeof turns / sizeof turns[0])];
+
+    lend_none();
+    if (run == run_ask && call_limit - calls < 3)
+        run = run_used; /* the other makes three calls */
+    run();
+}
+
+static void print_count(unsigned long count)
+{
+    if (count > 0)
+        printf(" %7lu", count);
+    else
+        printf("       .");
+}
+
+/* A row for each function: its calls, then how often each answer came and each refusal. */
+static void print_row(int function)
+{
+    unsigned long sum = 0;
+
+    for (int answer = 0; answer <= GREATEST_STATE + 1; answer++)
+        sum += answers_seen[function][answer];
+    for (int cause = 1; cause <= GREATEST_CAUSE; cause++)
+        sum += causes_seen[function][cause];
+    printf("%-16s", functions[function].name);
+    print_count(sum);
+    for (int answer = 0; answer <= GREATEST_STATE + 1; answer++)
+        print_count(answers_seen[function][answer]);
+    for (int cause = 1; cause <= GREATEST_CAUSE; cause++)
+        print_count(causes_seen[function][cause]);
+    printf("\n");
+}
+
+static void print_report(void)
+{
+    printf("%-16s   calls", "function");
+    for (int answer = 0; answer <= GREATEST_STATE; answer++)
+        printf(" %7d", answer);
+    printf("   above");
+    for (int cause = 1; cause <= GREATEST_CAUSE; cause++)
+        printf(" %7d", -cause);
+    printf("\n");
+    for (int i = 0; i < FUNCTIONS; i++)
+        print_row(i);
+    printf("memory held a table %lu times, with 256 entries %lu, with no room for 1,024 bytes %lu; none %lu times\n",
+           tables_seen, full_by_entries, full_by_bytes, none_seen);
+    printf("refusal 8 outside the child call: %lu with 256 entries, %lu by the sum of path lengths\n", refused_by_entries,
+           refused_by_bytes);
+    printf("hostile: %lu calls, seed %lu, 0 violations\n", calls, seed);
+}
+
+static unsigned long number_argument(const char *text)
+{
+    char *end;
+    unsigned long number = strtoul(text, &end, 10);
+
+    if (*text < '0' || *text > '9' || *end != '\0') {
+        fprintf(stderr, "hostile: %s is no number; see hostile --help\n", text);
+        exit(2);
+    }
+    return number;
+}
+
+static void read_arguments(int count, char **arguments)
+{
+    if (count == 2 && strcmp(arguments[1], "--help") == 0) {
+        printf("usage: hostile [CALLS [SEED]]\n"
+               "Makes CALLS random calls (100000) from SEED (1) with hostile input, and holds each against a model.\n"
+               "Exit status: 0 no violation, 1 a violation (one line says which), 2 wrong usage.\n");
+        exit(0);
+    }
+    if (count > MOST_ARGUMENTS) {
+        fprintf(stderr, "usage: hostile [CALLS [SEED]]\n");
+        exit(2);
+    }
+    if (count > 1)
+        call_limit = number_argument(arguments[1]);
+    if (count > 2)
+        seed = number_argument(arguments[2]);
+#ifdef BREAK
+    if (count > 3)
+        fault = number_argument(arguments[3]);
+#endif
+}
+
+int main(int count, char **arguments)
+{
+    read_arguments(count, arguments);
+    make_seed(seed);
+    make_areas();
+    watch_signals();
+    for (int i = 0; i < SLOTS; i++) {
+        make_noise(slots[i].bytes, sizeof slots[i].bytes);
+        slots[i].style = i % STYLES;
+        make_table(slots[i].bytes, slots[i].style);
+    }
+    for (unsigned long turns = 0; calls < call_limit; turns++) {
+        if (turns % 1024 == 0)
+            alarm(PATIENCE_SECONDS);
+        run_turn();
+    }
+    print_report();
+    return 0;
+}

@@ -1,0 +1,463 @@
+/* Document 01 in plain C, from the bottom up: paths, a table in memory, placing, the walk, the calls, the child. */
+#include "model.h"
+
+#include <string.h>
+
+/* ---- paths */
+
+static int is_dots(struct bytes component, size_t dots)
+{
+    return component.size == dots && memcmp(component.start, "..", dots) == 0;
+}
+
+/* The component from `at` on, up to a slash or the end. */
+static struct bytes component_at(struct bytes path, size_t at)
+{
+    struct bytes component = {path.start + at, 0};
+    while (at + component.size < path.size && component.start[component.size] != '/')
+        component.size++;
+    return component;
+}
+
+/* Adds a component to a path, where nothing at all stands for the root; the new size. */
+static size_t add_component(uint8_t *path, size_t size, struct bytes component)
+{
+    if (component.size == 0 || is_dots(component, 1))
+        return size;
+    if (is_dots(component, 2)) {
+        while (size > 0 && path[size - 1] != '/')
+            size--;
+        return size > 0 ? size - 1 : 0;
+    }
+    path[size] = '/';
+    memcpy(path + size + 1, component.start, component.size);
+    return size + 1 + component.size;
+}
+
+static size_t add_path(uint8_t *path, size_t size, struct bytes added)
+{
+    for (size_t at = 0; at < added.size;) {
+        struct bytes component = component_at(added, at);
+        size = add_component(path, size, component);
+        at += component.size + 1;
+    }
+    return size;
+}
+
+int model_resolve(struct bytes given, struct bytes directory, struct path *resolved)
+{
+    uint8_t path[2 * MAX_PATH + 2];
+    size_t size = 0;
+
+    if (given.size == 0)
+        return 4;
+    if (given.size > MAX_PATH)
+        return 5;
+    if (given.start[0] != '/') {
+        if (directory.size == 0 || directory.size > MAX_PATH || directory.start[0] != '/')
+            return 6;
+        size = add_path(path, size, directory);
+    }
+    size = add_path(path, size, given);
+    if (size == 0)
+        path[size++] = '/';
+    if (size > MAX_PATH)
+        return 7;
+    memcpy(resolved->bytes, path, size);
+    resolved->size = size;
+    return 0;
+}
+
+/* A slash before each component and nothing else, or the root's slash alone. */
+static int is_resolved(struct bytes path)
+{
+    if (path.size == 0 || path.start[0] != '/')
+        return 0;
+    for (size_t at = 1; at <= path.size && path.size > 1;) {
+        struct bytes component = component_at(path, at);
+        if (component.size == 0 || is_dots(component, 1) || is_dots(component, 2))
+            return 0;
+        at += component.size + 1;
+    }
+    return 1;
+}
+
+static int same_path(struct bytes a, struct bytes b)
+{
+    return a.size == b.size && memcmp(a.start, b.start, a.size) == 0;
+}
+
+static int is_prefix(struct bytes a, struct bytes b)
+{
+    if (a.size == 1)
+        return 1;
+    return a.size <= b.size && memcmp(a.start, b.start, a.size) == 0 && (a.size == b.size || b.start[a.size] == '/');
+}
+
+/* Component by component: where one path has a slash, its component has ended, and a shorter start is less. */
+static int path_order(struct bytes a, struct bytes b)
+{
+    size_t i = 0;
+    while (i < a.size && i < b.size && a.start[i] == b.start[i])
+        i++;
+    if (i == a.size || i == b.size)
+        return (a.size > b.size) - (a.size < b.size);
+    if (a.start[i] == '/' || b.start[i] == '/')
+        return a.start[i] == '/' ? -1 : 1;
+    return a.start[i] < b.start[i] ? -1 : 1;
+}
+
+/* ---- a table in memory */
+
+static uint32_t mark_of(uint32_t kind)
+{
+    static const uint32_t marks[KINDS] = {0, 1, 2, 4};
+    return marks[kind];
+}
+
+static size_t word_at(const uint8_t *memory, size_t at)
+{
+    return (size_t)memory[at] * 256 + memory[at + 1];
+}
+
+/* Reads the entry at `at`; where the next one begins, or 0 if this is none. */
+static size_t read_entry(const uint8_t *memory, size_t size, size_t at, struct entry *entry)
+{
+    if (size - at < 3 || memory[at] >= KINDS)
+        return 0;
+    entry->kind = memory[at];
+    entry->path.size = word_at(memory, at + 1);
+    entry->path.start = memory + at + 3;
+    if (entry->path.size > MAX_PATH || entry->path.size > size - at - 3 || !is_resolved(entry->path))
+        return 0;
+    return at + 3 + entry->path.size;
+}
+
+int model_reads(const uint8_t *memory, size_t size, struct table *table)
+{
+    size_t at = 4;
+    uint32_t marks = 0;
+
+    table->count = table->sum = 0;
+    table->switches = table->marks = 0;
+    if (size < TABLE_BYTES || word_at(memory, 0) > MAX_ENTRIES || memory[2] >= SWITCHES)
+        return 0;
+    for (size_t count = word_at(memory, 0); table->count < count;) {
+        struct entry *entry = &table->entries[table->count++];
+        at = read_entry(memory, size, at, entry);
+        if (at == 0)
+            return 0;
+        table->sum += entry->path.size;
+        marks |= mark_of(entry->kind);
+    }
+    table->switches = memory[2];
+    table->marks = memory[3];
+    return table->sum <= MAX_SUM && table->marks == marks;
+}
+
+size_t model_used(const struct table *table)
+{
+    return 4 + 3 * table->count + table->sum;
+}
+
+void model_writes(const struct table *table, uint8_t *memory)
+{
+    *memory++ = (uint8_t)(table->count / 256);
+    *memory++ = (uint8_t)(table->count % 256);
+    *memory++ = (uint8_t)table->switches;
+    *memory++ = (uint8_t)table->marks;
+    for (size_t i = 0; i < table->count; i++) {
+        const struct entry *entry = &table->entries[i];
+        *memory++ = (uint8_t)entry->kind;
+        *memory++ = (uint8_t)(entry->path.size / 256);
+        *memory++ = (uint8_t)(entry->path.size % 256);
+        memcpy(memory, entry->path.start, entry->path.size);
+        memory += entry->path.size;
+    }
+}
+
+/* ---- placing an entry */
+
+static int strictly_extends(struct bytes a, struct bytes b)
+{
+    return is_prefix(b, a) && !same_path(a, b);
+}
+
+static int compare_in_group(const struct entry *old, const struct entry *new)
+{
+    static const int rank[KINDS] = {0, 0, 1, 2}; /* equal paths go D, P, I; two G are equal */
+
+    if (same_path(old->path, new->path))
+        return (rank[old->kind] > rank[new->kind]) - (rank[old->kind] < rank[new->kind]);
+    if (is_prefix(new->path, old->path))
+        return -1;
+    if (is_prefix(old->path, new->path))
+        return 1;
+    return path_order(old->path, new->path);
+}
+
+static int compare(const struct entry *old, const struct entry *new)
+{
+    if ((old->kind == KIND_G) == (new->kind == KIND_G))
+        return compare_in_group(old, new);
+    if (old->kind == KIND_G)
+        return strictly_extends(old->path, new->path) ? -1 : 1;
+    return strictly_extends(new->path, old->path) ? 1 : -1;
+}
+
+/* Where a new entry goes, or MAX_ENTRIES + 1 if the search finds an equal one. */
+static size_t place_of(const struct table *table, const struct entry *new)
+{
+    size_t base = 0, size = table->count;
+    int order;
+
+    if (size == 0)
+        return 0;
+    while (size > 1) {
+        size_t half = size / 2;
+        if (compare(&table->entries[base + half], new) != 1)
+            base += half;
+        size -= half;
+    }
+    order = compare(&table->entries[base], new);
+    if (order == 0)
+        return MAX_ENTRIES + 1;
+    return order < 0 ? base + 1 : base;
+}
+
+int model_insert(struct table *table, uint32_t kind, struct bytes path)
+{
+    struct entry new = {kind, path};
+    size_t place = place_of(table, &new);
+
+    if (place <= MAX_ENTRIES) {
+        if (table->count == MAX_ENTRIES || table->sum + path.size > MAX_SUM)
+            return -8;
+        memmove(&table->entries[place + 1], &table->entries[place], (table->count - place) * sizeof new);
+        table->entries[place] = new;
+        table->count++;
+        table->sum += path.size;
+    }
+    table->marks |= mark_of(kind);
+    return 0;
+}
+
+/* ---- the walk */
+
+static int matches(const struct entry *entry, struct bytes path)
+{
+    if (entry->kind == KIND_P)
+        return is_prefix(path, entry->path);
+    return is_prefix(entry->path, path);
+}
+
+static int is_partial(const struct table *table, const struct bytes *path)
+{
+    if (path == NULL)
+        return (table->marks & (1 | 4)) != 0;
+    for (size_t i = 0; i < table->count; i++) {
+        const struct entry *entry = &table->entries[i];
+        if ((entry->kind == KIND_D || entry->kind == KIND_I) && is_prefix(*path, entry->path))
+            return 1;
+    }
+    return 0;
+}
+
+static int allowed(const struct table *table, uint32_t mode, const struct bytes *path)
+{
+    if (mode == MODE_GRANTED || !is_partial(table, path))
+        return GRANTED;
+    return mode == MODE_DENIED ? DENIED_PARTIAL : GRANTED_PARTIAL;
+}
+
+int model_query(const struct table *table, uint32_t mode, const struct bytes *path)
+{
+    int denied = (table->switches & SWITCH_DENIED) != 0;
+
+    for (size_t i = 0; path != NULL && i < table->count; i++) {
+        const struct entry *entry = &table->entries[i];
+        if (!matches(entry, *path))
+            continue;
+        if (entry->kind == KIND_G)
+            return allowed(table, mode, path);
+        return entry->kind == KIND_I ? IGNORED : DENIED;
+    }
+    if (path == NULL && ((table->switches & SWITCH_PROMPT_DENIED) != 0 || (table->marks & 2) != 0))
+        denied = 1;
+    if ((table->switches & SWITCH_IGNORED) != 0)
+        return IGNORED;
+    if (mode == MODE_DENIED && is_partial(table, path))
+        return DENIED_PARTIAL;
+    if (denied)
+        return DENIED;
+    return (table->switches & SWITCH_GRANTED) != 0 ? allowed(table, mode, path) : PROMPT;
+}
+
+/* ---- check, request, revoke */
+
+static int state_before(const struct table *table, int call, const struct bytes *path)
+{
+    if (call == REQUEST)
+        return model_query(table, MODE_PARTIAL, path);
+    return model_query(table, path == NULL ? MODE_GRANTED : MODE_DENIED, path);
+}
+
+int model_asks(const struct table *table, int call, const struct bytes *path)
+{
+    return state_before(table, call, path) == PROMPT && (table->switches & SWITCH_PROMPT) != 0;
+}
+
+static int grant(struct table *table, const struct bytes *path)
+{
+    if (path != NULL)
+        return model_insert(table, KIND_G, *path);
+    table->switches |= SWITCH_GRANTED;
+    return 0;
+}
+
+static int answered(struct table *table, const struct bytes *path, uint32_t answer)
+{
+    if (answer == ALLOW)
+        return grant(table, path);
+    if (answer == ALLOW_ALL)
+        return grant(table, NULL);
+    if (path != NULL)
+        return model_insert(table, KIND_P, *path);
+    table->switches |= SWITCH_PROMPT_DENIED;
+    return 0;
+}
+
+int model_ask(struct table *table, int call, const struct bytes *path, uint32_t answer, uint32_t *asked)
+{
+    int state = state_before(table, call, path);
+    int refused;
+
+    *asked = 0;
+    if (model_asks(table, call, path)) {
+        refused = answered(table, path, answer);
+        if (refused != 0)
+            return refused;
+        *asked = 1;
+        return answer == DENY ? DENIED : GRANTED;
+    }
+    if (call == CHECK)
+        return state;
+    if (state == GRANTED)
+        return grant(table, path);
+    return state == PROMPT ? DENIED : state;
+}
+
+int model_revoke(struct table *table, const struct bytes *path)
+{
+    size_t kept = 0;
+
+    for (size_t i = 0; i < table->count; i++) {
+        struct entry entry = table->entries[i];
+        if (entry.kind == KIND_G && (path == NULL || is_prefix(entry.path, *path)))
+            table->sum -= entry.path.size;
+        else
+            table->entries[kept++] = entry;
+    }
+    table->count = kept;
+    if (path == NULL)
+        table->switches &= ~(uint32_t)SWITCH_GRANTED;
+    return model_query(table, MODE_PARTIAL, path);
+}
+
+size_t model_text(const struct bytes *given, const struct path *resolved, uint8_t *text)
+{
+    static const char head[] = "read access to ";
+    struct bytes name;
+    size_t size = sizeof head - 1;
+    int quoted;
+
+    memcpy(text, head, size);
+    if (given == NULL)
+        return strlen("read access");
+    name = *given;
+    if (name.start[0] == '/') {
+        name.start = resolved->bytes;
+        name.size = resolved->size;
+    }
+    quoted = name.start[0] != '<' || name.start[name.size - 1] != '>';
+    if (quoted)
+        text[size++] = '"';
+    memcpy(text + size, name.start, name.size);
+    size += name.size;
+    if (quoted)
+        text[size++] = '"';
+    return size;
+}
+
+/* ---- the child */
+
+int model_child_arguments(const struct child_call *call)
+{
+    size_t due = call->code == LIST ? call->ends_count : call->code == CHILD_GRANTED ? 1 : 0;
+    size_t from = 0;
+
+    if (call->code >= CODES || call->ends_count > (call->code == LIST ? MAX_ITEMS : 0) || call->answers_count != due)
+        return -3;
+    for (size_t i = 0; i < call->ends_count; i++) {
+        if (call->ends[i] < from)
+            return -3;
+        from = call->ends[i];
+    }
+    if (from != call->items.size)
+        return -3;
+    for (size_t i = 0; i < call->answers_count; i++)
+        if (call->answers[i] >= ANSWERS)
+            return -3;
+    return 0;
+}
+
+/* The parent's check of an item, then 10, then the child's grant; `asked` grows by a check that came to an end. */
+static int child_item(struct table *parent, struct table *child, const struct bytes *path, uint32_t answer, uint32_t *asked)
+{
+    uint32_t once;
+    int state = model_ask(parent, CHECK, path, answer, &once);
+
+    *asked += once;
+    if (state != GRANTED)
+        return state < 0 ? state : -10;
+    return grant(child, path);
+}
+
+static int child_list(struct table *parent, struct table *child, const struct child_call *call, uint32_t *asked)
+{
+    static struct path resolved[MAX_ITEMS]; /* the tables point here */
+    size_t from = 0;
+    int refused = 0;
+
+    for (size_t i = 0; i < call->ends_count && refused == 0; i++) {
+        struct bytes given = {call->items.start + from, call->ends[i] - from};
+        struct bytes path;
+        refused = -model_resolve(given, call->directory, &resolved[i]);
+        path.start = resolved[i].bytes;
+        path.size = resolved[i].size;
+        if (refused == 0)
+            refused = child_item(parent, child, &path, call->answers[i], asked);
+        from = call->ends[i];
+    }
+    return refused;
+}
+
+int model_child(struct table *parent, struct table *child, const struct child_call *call, uint32_t *asked)
+{
+    int refused = 0;
+
+    *asked = 0;
+    child->count = child->sum = 0;
+    child->switches = child->marks = 0;
+    if (call->code == INHERIT)
+        *child = *parent;
+    else if (call->code == CHILD_GRANTED)
+        refused = child_item(parent, child, NULL, call->answers[0], asked);
+    else if (call->code == LIST)
+        refused = child_list(parent, child, call, asked);
+    child->switches = (child->switches & SWITCH_GRANTED) | (parent->switches & ~(uint32_t)SWITCH_GRANTED);
+    for (size_t i = 0; i < parent->count && refused == 0; i++)
+        if (parent->entries[i].kind != KIND_G)
+            refused = model_insert(child, parent->entries[i].kind, parent->entries[i].path);
+    return refused;
+}

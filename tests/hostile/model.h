@@ -1,0 +1,81 @@
+/* Document 01 in plain C: what each call answers and which table it leaves. It is written from the document and the
+ * README's layout of a table, shares nothing with the library, and takes its time. */
+#ifndef MODEL_H
+#define MODEL_H
+
+#include <stddef.h>
+#include <stdint.h>
+
+enum {
+    TABLE_BYTES = 33540,
+    TEXT_BYTES = 1041,
+    MAX_ENTRIES = 256,
+    MAX_PATH = 1024,
+    MAX_SUM = 32768,
+    MAX_ITEMS = 64
+};
+
+enum { KIND_G, KIND_D, KIND_P, KIND_I, KINDS };
+enum { MODE_DENIED, MODE_PARTIAL, MODE_GRANTED, MODES };
+enum { GRANTED, GRANTED_PARTIAL, PROMPT, DENIED, DENIED_PARTIAL, IGNORED };
+enum { DENY, ALLOW, ALLOW_ALL, ANSWERS };
+enum { INHERIT, CHILD_GRANTED, NOT_GRANTED, LIST, CODES };
+enum { SWITCH_GRANTED = 1, SWITCH_DENIED = 2, SWITCH_IGNORED = 4, SWITCH_PROMPT_DENIED = 8, SWITCH_PROMPT = 16, SWITCHES = 32 };
+enum { CHECK, REQUEST };
+
+struct bytes {
+    const uint8_t *start;
+    size_t size;
+};
+
+struct path {
+    size_t size;
+    uint8_t bytes[MAX_PATH];
+};
+
+/* An entry's path stays where it was read: what it points into must outlive the table. */
+struct entry {
+    uint32_t kind;
+    struct bytes path;
+};
+
+struct table {
+    size_t count, sum;
+    uint32_t switches, marks;
+    struct entry entries[MAX_ENTRIES];
+};
+
+struct child_call {
+    uint32_t code;
+    struct bytes items;
+    const uint32_t *ends;
+    size_t ends_count;
+    const uint32_t *answers;
+    size_t answers_count;
+    struct bytes directory;
+};
+
+/* Reads a table; 0 where the memory holds none. */
+int model_reads(const uint8_t *memory, size_t size, struct table *table);
+size_t model_used(const struct table *table);
+void model_writes(const struct table *table, uint8_t *memory);
+
+/* 0, or the cause from 4 to 7. */
+int model_resolve(struct bytes given, struct bytes directory, struct path *resolved);
+
+/* A resolved path, or NULL for the call with no path. Results as in permissions.h: a state, 0, or minus the cause. */
+int model_query(const struct table *table, uint32_t mode, const struct bytes *path);
+int model_insert(struct table *table, uint32_t kind, struct bytes path);
+int model_asks(const struct table *table, int call, const struct bytes *path);
+int model_ask(struct table *table, int call, const struct bytes *path, uint32_t answer, uint32_t *asked);
+int model_revoke(struct table *table, const struct bytes *path);
+
+/* The text about a path as given and as resolved, or with no path if `given` is NULL; its size. */
+size_t model_text(const struct bytes *given, const struct path *resolved, uint8_t *text);
+
+/* 0 where the arguments are in order, else -3. */
+int model_child_arguments(const struct child_call *call);
+/* Makes a child of arguments in order. Both tables may point into memory that lives until the next call. */
+int model_child(struct table *parent, struct table *child, const struct child_call *call, uint32_t *asked);
+
+#endif

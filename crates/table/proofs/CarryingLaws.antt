@@ -19,7 +19,7 @@ use Rattle.table.specs.Entries.{Entry}
 use Rattle.table.specs.Tables.{maxSwitches, isEntry}
 use Rattle.table.specs.Acts.{Act, insert, setSwitches, revoke, revokeAll, isAct, actOverflows}
 use Rattle.table.specs.Memory.{tableOf, doAct, doActs}
-use Rattle.table.specs.Carrying.{usedUp, carryCause, actsOf, outcomeOf, actOf, fits, CarriesOut}
+use Rattle.table.specs.Carrying.{usedUp, carryCause, actsOf, outcomeOf, actOf, actionOf, fits, CarriesOut}
 use Rattle.table.specs.Changing.{InsertsEntry, mayOverflow, DoesAct, noNumber}
 
 -- ---- the act of each action
@@ -44,6 +44,15 @@ module _ {action : Action} (q : List ℕ) where
   pub act-revoke-all : action ≡ RevokeAll → actOf action q ≡ some revokeAll
   unfolding actOf
   act-revoke-all e = rw e
+
+-- an action is that of its act, whatever path is lent beside it
+pub action-again : (action : Action) (q : List ℕ) → actionOf (actOf action q) ≡ action
+unfolding actionOf actOf
+action-again Nothing q = refl
+action-again (Insert kind) q = refl
+action-again (SetSwitches v) q = refl
+action-again Revoke q = refl
+action-again RevokeAll q = refl
 
 -- ---- what fits
 

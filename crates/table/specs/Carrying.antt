@@ -60,6 +60,14 @@ actOf (SetSwitches v) q = some (setSwitches v)
 actOf Revoke q = some (revoke q)
 actOf RevokeAll q = some revokeAll
 
+-- the same without its path
+unfoldable pub actionOf : Option Act → Action
+actionOf none = Nothing
+actionOf (some (insert e)) = Insert (e .kind)
+actionOf (some (setSwitches v)) = SetSwitches v
+actionOf (some (revoke q)) = Revoke
+actionOf (some revokeAll) = RevokeAll
+
 unfoldable pub fits : Option Act → Bool
 fits none = true
 fits (some act) = isAct act

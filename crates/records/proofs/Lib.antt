@@ -1,0 +1,5 @@
+pub mod RecordLaws
+pub mod WrittenLaws
+pub mod SpellingLaws
+pub mod WritingLaws
+pub mod ReadingLaws

@@ -1,0 +1,72 @@
+-- Laws of writing a record: stores that are one run of words, and the words of each action.
+use Prim.Native.Nat.{ℕ, _+_, _≤_}
+use mathlib.Core.Path.{_≡_, sym, subst}
+use mathlib.Core.List.{List, [], _∷_, append-nil}
+use mathlib.Core.Bool.{true}
+use native.Mathlib.Nat.{add-zero}
+use native.Mathlib.Omega.{arith}
+use native.Mathlib.Numerals.{towards-suc}
+use lib.ListN.{length, take, set, take-append-drop}
+use Rattle.paths.specs.Copying.{overwrite}
+use Rattle.paths.specs.Resolving.{maxPath}
+use Rattle.table.specs.declared.Kind.{Kind}
+use Rattle.table.specs.declared.Action.{Action}
+use Rattle.table.specs.declared.Action.the-variants.{Nothing, Insert, SetSwitches, Revoke, RevokeAll}
+use Rattle.table.specs.Tables.{isEntry}
+use Rattle.table.specs.Acts.{isAct}
+use Rattle.table.specs.Carrying.{actOf, fits}
+use Rattle.table.proofs.Overwrites.{over-sets, over-above}
+use Rattle.records.specs.Records.{switchesKind, wordOf, insertNumber, actNumber, headWord, pathPart, actPart, changeWords}
+use Rattle.records.specs.Answers.{recordWords, Writes}
+use Rattle.records.proofs.RecordLaws.{path-short}
+
+-- two words stored one by one, and the same with more words behind them
+pub two-stores : (m : List ℕ) (at a b : ℕ) → at + 2 ≤ length m → set (set m at a) (at + 1) b ≡ overwrite m at (a ∷ b ∷ [])
+two-stores m at a b h = simp towards-suc (over-sets (a ∷ b ∷ []) m at h)
+
+pub two-before : (m : List ℕ) (at a b : ℕ) (s : List ℕ) → at + 2 ≤ length m
+    → overwrite (set (set m at a) (at + 1) b) (at + 2) s ≡ overwrite m at (a ∷ b ∷ s)
+two-before m at a b s h = rw (two-stores m at a b h) (over-above m at (a ∷ b ∷ []) s h)
+
+-- ---- the words of each action
+
+pub writes-none : (w : List ℕ) (at : ℕ) → Writes [] w at w at
+unfolding overwrite
+writes-none w at = record { words = sym (rw (append-nil (take at w), add-zero at) (take-append-drop at w)); end = omega arith }
+
+pub writes-as : {s s′ w w′ : List ℕ} {at r : ℕ} → s ≡ s′ → Writes s w at w′ r → Writes s′ w at w′ r
+writes-as {w = w} {w′ = w′} {at = at} {r = r} e W = subst (λ (x : List ℕ). Writes x w at w′ r) e W
+
+module _ {action : Action} (number : ℕ) (q : List ℕ) where
+  pub no-words : action ≡ Nothing → [] ≡ recordWords number (actOf action q)
+  unfolding actOf recordWords
+  no-words e = rw e
+
+  pub insert-words : {k : Kind} {head : ℕ} → action ≡ Insert k → head ≡ headWord (insertNumber k) number
+      → head ∷ pathPart q ≡ recordWords number (actOf action q)
+  unfolding actOf recordWords changeWords actNumber actPart
+  insert-words e h = rw (e, h)
+
+  pub switches-words : {v head : ℕ} → action ≡ SetSwitches v → head ≡ headWord 5 number
+      → head ∷ wordOf switchesKind v ∷ [] ≡ recordWords number (actOf action q)
+  unfolding actOf recordWords changeWords actNumber actPart
+  switches-words e h = rw (e, h)
+
+  pub revoke-words : {head : ℕ} → action ≡ Revoke → head ≡ headWord 6 number → head ∷ pathPart q ≡ recordWords number (actOf action q)
+  unfolding actOf recordWords changeWords actNumber actPart
+  revoke-words e h = rw (e, h)
+
+  pub revoke-all-words : {head : ℕ} → action ≡ RevokeAll → head ≡ headWord 7 number → head ∷ [] ≡ recordWords number (actOf action q)
+  unfolding actOf recordWords changeWords actNumber actPart
+  revoke-all-words e h = rw (e, h)
+
+-- ---- the path of an act that fits is within its limit
+
+module _ {action : Action} (q : List ℕ) (ok : fits (actOf action q) ≡ true) where
+  pub insert-short : {k : Kind} → action ≡ Insert k → length q ≤ maxPath
+  unfolding actOf fits isAct isEntry
+  insert-short e = path-short q (rw e at ok)
+
+  pub revoke-short : action ≡ Revoke → length q ≤ maxPath
+  unfolding actOf fits isAct
+  revoke-short e = path-short q (rw e at ok)

@@ -1,0 +1,38 @@
+// Records: a change of the main's table as 32-bit words, written and read back. The definitions are in specs/.
+use table::Action;
+
+pub mod reading;
+pub mod writing;
+
+// The kinds of a word, in its top four bits, and what stands below them.
+const HEAD: u32 = 1;
+
+const LENGTH: u32 = 2;
+
+const PATH: u32 = 3;
+
+const SWITCHES: u32 = 4;
+
+const KIND_UNIT: u32 = 0x1000_0000;
+
+// In a head four act bits stand next, and the change number below them.
+const ACT_UNIT: u32 = 0x100_0000;
+
+// All five switches.
+const MAX_SWITCHES: u32 = 31;
+
+// Room for the bytes of as many words as the longest path takes.
+const PATH_ROOM: usize = 1026;
+
+// What reading a record answers: its number, its act, how many bytes its path has in the lent space, and where the words behind it
+// begin; or that the words are malformed.
+pub enum Record {
+    Malformed,
+    Change(u64, Action, usize, usize),
+}
+
+// What reading a path answers: how many bytes it has, and where the words behind it begin; or that the words are malformed.
+enum PathRead {
+    Malformed,
+    Path(usize, usize),
+}

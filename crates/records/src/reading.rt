@@ -1,0 +1,186 @@
+// Reading a record word after word from lent words. Words that depart from the form in anything are malformed.
+use crate::ACT_UNIT;
+use crate::KIND_UNIT;
+use crate::LENGTH;
+use crate::MAX_SWITCHES;
+use crate::PATH_ROOM;
+use crate::PathRead;
+use crate::Record;
+use crate::SWITCHES;
+use crate::writing::path_word;
+use crate::writing::words_for;
+use paths::MAX_PATH;
+use paths::copying::copy_in;
+use paths::resolving::is_resolved;
+use table::Action;
+use table::Kind;
+ghost use mathlib.Core.Path.{_≡_};
+ghost use mathlib.Core.List.{List};
+ghost use mathlib.Core.Option.{some};
+ghost use Prim.Native.Nat.{ℕ, _+_, _*_, _<_, _≤_};
+ghost use lib.ListN.{length, take, drop};
+ghost use Rattle.paths.specs.Components.{same};
+ghost use Rattle.paths.specs.Copying.{overwrite};
+ghost use Rattle.paths.specs.Resolving.{maxPath};
+ghost use Rattle.table.specs.Carrying.{actionOf};
+ghost use Rattle.records.specs.Records.{pathWords, readPath, readSwitches, withPath, withNumber, readFirst};
+ghost use Rattle.records.specs.Answers.{recordAnswer, ReadsRecord};
+ghost use Rattle.records.specs.Steps.{wordsFor, wordBytes, lengthIn, HandsOver, ReadsPath, pathAct};
+
+// The path length that the word at a place says, or 0 if it is no length word.
+fn path_length(words: &[u32], at: usize) -> usize
+    ensures { λ r. ⌜ r ≡ lengthIn (drop at (now (words .entry))) ⌝ }
+{
+    if at >= words.len() {
+        return 0;
+    }
+    let word = words[at];
+    if word / KIND_UNIT != LENGTH {
+        return 0;
+    }
+    let n = (word % KIND_UNIT) as usize;
+    if n > MAX_PATH {
+        return 0;
+    }
+    n
+}
+
+// Takes three bytes out of each of some words, whatever their kinds.
+fn take_bytes(words: &[u32], at: usize, count: usize, work: &mut [u8])
+    requires { ⌜ (at + count ≤ length (now words)) × (3 * count ≤ length (now work)) ⌝ }
+    ensures { λ _. ⌜ now (work .exit) ≡ overwrite (now (work .entry)) 0 (wordBytes (take count (drop at (now (words .entry))))) ⌝ }
+{
+    let mut k: usize = 0;
+    while k < count {
+        let word = words[at + k];
+        let i = 3 * k;
+        work[i] = (word / 65536 % 256) as u8;
+        work[i + 1] = (word / 256 % 256) as u8;
+        work[i + 2] = (word % 256) as u8;
+        k += 1;
+    }
+}
+
+// Whether the words from a place on are those that p is written as: so their kinds and their unused bytes are in order.
+fn are_words_of(words: &[u32], at: usize, p: &[u8]) -> bool
+    requires { ⌜ (length (now p) ≤ maxPath) × (at + wordsFor (length (now p)) ≤ length (now words)) ⌝ }
+    ensures { λ r. ⌜ r ≡ same (take (wordsFor (length (now (p .entry)))) (drop at (now (words .entry)))) (pathWords (now (p .entry))) ⌝ }
+{
+    let count = words_for(p.len());
+    let mut k: usize = 0;
+    while k < count {
+        if words[at + k] != path_word(p, k) {
+            return false;
+        }
+        k += 1;
+    }
+    true
+}
+
+// Copies a path into the lent space, if the words from a place on are its own and it is in resolved form.
+fn hand_over(words: &[u32], at: usize, p: &[u8], space: &mut [u8; MAX_PATH]) -> bool
+    requires { ⌜ (length (now p) ≤ maxPath) × (at + wordsFor (length (now p)) ≤ length (now words)) ⌝ }
+    ensures { λ r. ⌜ HandsOver (now (words .entry)) at (now (p .entry)) (now (space .entry)) r (now (space .exit)) ⌝ }
+{
+    if !are_words_of(words, at, p) {
+        return false;
+    }
+    if !is_resolved(p) {
+        return false;
+    }
+    copy_in(space, 0, p);
+    true
+}
+
+// Reads a length and its path into the lent space. The path is put there only when all of it is in order.
+fn read_path(words: &[u32], at: usize, space: &mut [u8; MAX_PATH]) -> PathRead
+    ensures { λ r. ⌜ ReadsPath at (readPath (drop at (now (words .entry)))) (now (space .entry)) r (now (space .exit)) ⌝ }
+{
+    let n = path_length(words, at);
+    if n == 0 {
+        return PathRead::Malformed;
+    }
+    let start = at + 1;
+    let count = words_for(n);
+    if words.len() - start < count {
+        return PathRead::Malformed;
+    }
+    let mut work = [0u8; PATH_ROOM];
+    take_bytes(words, start, count, &mut work);
+    if !hand_over(words, start, &work[0..n], space) {
+        return PathRead::Malformed;
+    }
+    PathRead::Path(n, start + count)
+}
+
+// The act of a head that takes a path.
+fn path_action(act: u8) -> Action
+    ensures { λ r. ⌜ ((q : List ℕ) → r ≡ actionOf (some (pathAct act q))) ⌝ }
+{
+    match act {
+        1 => Action::Insert(Kind::G),
+        2 => Action::Insert(Kind::D),
+        3 => Action::Insert(Kind::I),
+        4 => Action::Insert(Kind::P),
+        _ => Action::Revoke,
+    }
+}
+
+// Reads a record whose head takes a path.
+fn read_with_path(
+    words: &[u32],
+    from: usize,
+    number: u64,
+    act: u8,
+    space: &mut [u8; MAX_PATH],
+) -> Record
+    requires { ⌜ (from < length (now words)) × (0 < number) ⌝ }
+    ensures { λ r. ⌜ ReadsRecord from (withNumber number (withPath (pathAct act) (readPath (drop (from + 1) (now (words .entry)))))) (now (space .entry)) r (now (space .exit)) ⌝ }
+{
+    let PathRead::Path(n, end) = read_path(words, from + 1, space) else {
+        return Record::Malformed;
+    };
+    Record::Change(number, path_action(act), n, end)
+}
+
+// Reads a record whose head takes switches.
+fn read_with_switches(words: &[u32], from: usize, number: u64) -> Record
+    requires { ⌜ (from < length (now words)) × (0 < number) ⌝ }
+    ensures { λ r. ⌜ r ≡ recordAnswer from (withNumber number (readSwitches (drop (from + 1) (now (words .entry))))) ⌝ }
+{
+    let at = from + 1;
+    if at == words.len() {
+        return Record::Malformed;
+    }
+    let word = words[at];
+    if word / KIND_UNIT != SWITCHES {
+        return Record::Malformed;
+    }
+    let switches = word % KIND_UNIT;
+    if switches > MAX_SWITCHES {
+        return Record::Malformed;
+    }
+    Record::Change(number, Action::SetSwitches(switches as u8), 0, from + 2)
+}
+
+// Reads the record that the words from a place on begin with, and its path into the lent space. A head's kind and act bits together
+// decide what must follow it.
+pub fn read_record(words: &[u32], from: usize, space: &mut [u8; MAX_PATH]) -> Record
+    ensures { λ r. ⌜ ReadsRecord from (readFirst (drop from (now (words .entry)))) (now (space .entry)) r (now (space .exit)) ⌝ }
+{
+    if from >= words.len() {
+        return Record::Malformed;
+    }
+    let head = words[from];
+    let number = (head % ACT_UNIT) as u64;
+    if number == 0 {
+        return Record::Malformed;
+    }
+    let top = (head / ACT_UNIT) as u8;
+    match top {
+        0x11..=0x14 | 0x16 => read_with_path(words, from, number, top % 16, space),
+        0x15 => read_with_switches(words, from, number),
+        0x17 => Record::Change(number, Action::RevokeAll, 0, from + 1),
+        0..=0x10 | 0x18..=0xFF => Record::Malformed,
+    }
+}

@@ -20,6 +20,7 @@ use Rattle.paths.specs.Resolving.{resolve}
 use Rattle.paths.specs.Copying.{begun}
 use Rattle.paths.specs.Giving.{Query, isQuery, queryOf, given, givenSize, givenInto, Gives}
 use Rattle.paths.proofs.GivingLaws.{Stands, gives-refused, gives-stands, given-stands}
+use Rattle.table.specs.declared.Action.{Action}
 use Rattle.table.specs.declared.Numbering.{Numbering}
 use Rattle.table.specs.declared.Numbering.the-variants.{Plain}
 use Rattle.table.specs.declared.Outcome.{Outcome}
@@ -27,9 +28,10 @@ use Rattle.table.specs.declared.Outcome.the-variants.{Done, Refused}
 use Rattle.table.specs.Tables.{Table}
 use Rattle.table.specs.Acts.{Act, applyActs}
 use Rattle.table.specs.Memory.{tableOf, holds, doActs}
-use Rattle.table.specs.Carrying.{carryCause, actsOf, actOf, fits, CarriesOut}
+use Rattle.table.specs.Carrying.{carryCause, actsOf, actOf, actionOf, fits, CarriesOut}
 use Rattle.table.specs.Calls.{tableIn}
 use Rattle.table.proofs.ActLaws.{carried-done, carried-refused, carried-held, acted-carried}
+use Rattle.table.proofs.CarryingLaws.{action-again}
 use Rattle.table.proofs.CallLaws.{no-table, a-table}
 use Rattle.walk.specs.declared.PermissionState.{PermissionState}
 use Rattle.walk.specs.declared.AllowPartial.the-variants.{TreatAsPartialGranted}
@@ -102,9 +104,12 @@ module _ {call : Call} {numbers : Numbering} {m m′ : List ℕ} {q : Query} {re
   query-refused e = record { answer = rw (carried-stops (decide call (tableOf m) q response) C e); memory = carried-memory _ C }
 
   pub query-decided : {n : ℕ} {l : List ℕ} {r : Decided} → o ≡ Done → Decides (decide call (tableOf m) q response) l r
-      → SettlesQuery call numbers m q response n m′ (settled-as.Decided (r .state) (r .asked) (r .writes) n)
+      → SettlesQuery call numbers m q response n m′ (settled-as.Decided (r .state) (r .asked) (r .writes) n (r .action))
   unfolding settledAs
-  query-decided e D = record { answer = rw (carried-goes (decide call (tableOf m) q response) C e, ← D .state, ← D .asked, ← D .writes); memory = carried-memory _ C }
+  query-decided {l = l} {r = r} e D = record {
+    answer = rw (carried-goes (decide call (tableOf m) q response) C e, ← D .state, ← D .asked, ← D .writes, ← D .act, action-again (r .action) l);
+    memory = carried-memory _ C;
+  }
 
 -- ---- and of what is given
 
@@ -129,18 +134,19 @@ refused-by (refused cause) n e = cc
 refused-by (ok decision) n e = let z : _≡_ {A = ℕ} 0 1 = cc in absurd (omega arith)
 
 -- the decision that the code's answer speaks of
-pub record Told (c : Result Decision) (state : PermissionState) (asked writes : Bool) : Type 0 where
+pub record Told (c : Result Decision) (state : PermissionState) (asked writes : Bool) (action : Action) : Type 0 where
   pub decision : Decision
   pub is : c ≡ ok decision
   pub state-is : state ≡ decision .state
   pub asked-is : asked ≡ decision .asked
   pub writes-is : writes ≡ decision .writes
+  pub action-is : action ≡ actionOf (decision .act)
 
-told-by : (c : Result Decision) (n : ℕ) {k : ℕ} {state : PermissionState} {asked writes : Bool} → settledAs c n ≡ settled-as.Decided state asked writes k
-    → Told c state asked writes × (k ≡ n)
+told-by : (c : Result Decision) (n : ℕ) {k : ℕ} {state : PermissionState} {asked writes : Bool} {action : Action}
+    → settledAs c n ≡ settled-as.Decided state asked writes k action → Told c state asked writes action × (k ≡ n)
 unfolding settledAs
 told-by (refused cause) n e = let z : _≡_ {A = ℕ} 0 1 = cc in absurd (omega arith)
-told-by (ok decision) n e = (record { decision = decision; is = refl; state-is = cc; asked-is = cc; writes-is = cc }, cc)
+told-by (ok decision) n e = (record { decision = decision; is = refl; state-is = cc; asked-is = cc; writes-is = cc; action-is = cc }, cc)
 
 record IsOk (g : Result Query) : Type 0 where
   query : Query
@@ -162,8 +168,8 @@ module _ {call : Call} {numbers : Numbering} {m : List ℕ} {d : Descriptor} {p 
   pub settled-refused : {cause : Refusal} → r ≡ settled-as.Refused cause → settled call numbers (tableOf m) d p cwd response ≡ refused cause
   settled-refused e = refused-by (settled call numbers (tableOf m) d p cwd response) _ (sym (S .answer) ∙ e)
 
-  module _ {state : PermissionState} {asked writes : Bool} {n : ℕ} (e : r ≡ settled-as.Decided state asked writes n) where
-    pub settled-told : Told (settled call numbers (tableOf m) d p cwd response) state asked writes
+  module _ {state : PermissionState} {asked writes : Bool} {n : ℕ} {action : Action} (e : r ≡ settled-as.Decided state asked writes n action) where
+    pub settled-told : Told (settled call numbers (tableOf m) d p cwd response) state asked writes action
     settled-told = told-by (settled call numbers (tableOf m) d p cwd response) _ (sym (S .answer) ∙ e) .0
 
     pub settled-stands : Stands d p cwd n s′
@@ -217,7 +223,7 @@ module _ {call : Call} {m s : List ℕ} {d : Descriptor} {p cwd : List ℕ} {res
     unfolding actsIn doActs
     asks-stopped f g = asks-refused (e ∙ settled-refused S f) g (S .memory ∙ rw (settled-refused S f))
 
-    pub asks-finished : {state : PermissionState} {asked writes : Bool} {n : ℕ} {s′ : List ℕ} {a : Asked} → r ≡ settled-as.Decided state asked writes n
+    pub asks-finished : {state : PermissionState} {asked writes : Bool} {n : ℕ} {action : Action} {s′ : List ℕ} {a : Asked} → r ≡ settled-as.Decided state asked writes n action
         → Finishes state asked writes d p (take n z′) s s′ a → Asks call m s d p cwd response m′ s′ a
     unfolding answerIn askedIn textDue textIn
     asks-finished f F =

@@ -17,7 +17,7 @@ use Rattle.table.specs.declared.Numbering.the-variants.{Plain}
 use Rattle.table.specs.Tables.{Table}
 use Rattle.table.specs.Acts.{Act, revoke, revokeAll, applyAct}
 use Rattle.table.specs.Memory.{tableOf, doActs}
-use Rattle.table.specs.Carrying.{carryCause, actsOf}
+use Rattle.table.specs.Carrying.{carryCause, actsOf, actionOf}
 use Rattle.table.specs.Calls.{tableIn}
 use Rattle.walk.specs.declared.AllowPartial.the-variants.{TreatAsPartialGranted}
 use Rattle.walk.specs.declared.Answer.{Answer}
@@ -64,10 +64,10 @@ settled call numbers t d p cwd response =
     andThen (given d p cwd) (λ q.
     carriedOut numbers t (decide call t q response))
 
--- the same as an answer of the code, with the resolved path's length
+-- the same as an answer of the code, with the resolved path's length; the act's path is the resolved one
 unfoldable pub settledAs : Result Decision → ℕ → Settled
 settledAs (refused cause) n = settled-as.Refused cause
-settledAs (ok decision) n = settled-as.Decided (decision .state) (decision .asked) (decision .writes) n
+settledAs (ok decision) n = settled-as.Decided (decision .state) (decision .asked) (decision .writes) n (actionOf (decision .act))
 
 -- memory m and the space s become m′ and s′
 pub record Settles (call : Call) (numbers : Numbering) (m : List ℕ) (d : Descriptor) (p cwd : List ℕ) (response : PromptResponse)

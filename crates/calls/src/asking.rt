@@ -62,7 +62,7 @@ fn settle_query(
     let action = decided.action;
     match carry_out(mem, numbers, action, q) {
         Outcome::Refused(cause) => Settled::Refused(cause),
-        Outcome::Done => Settled::Decided(state, asked, writes, n),
+        Outcome::Done => Settled::Decided(state, asked, writes, n, action),
     }
 }
 
@@ -98,7 +98,7 @@ fn refused(cause: Refusal) -> Asked
 }
 
 // The answer of a call that is decided, with its text, if one is due. The resolved path is the first n bytes of the space `resolved`.
-fn finish<'a>(
+pub fn finish<'a>(
     state: PermissionState,
     asked: bool,
     writes: bool,
@@ -161,7 +161,7 @@ pub fn ask<'a>(
         &mut resolved,
     ) {
         Settled::Refused(cause) => refused(cause),
-        Settled::Decided(state, asked, writes, n) => finish(
+        Settled::Decided(state, asked, writes, n, _) => finish(
             state,
             asked,
             writes,

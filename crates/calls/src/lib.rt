@@ -41,11 +41,11 @@ pub struct Decided {
     pub action: Action,
 }
 
-// What a call comes to whose act is carried out: why it is refused, or its state, whether the operator was asked, whether a text is due, and
-// how many bytes the resolved path has.
+// What a call comes to whose act is carried out: why it is refused, or its state, whether the operator was asked, whether a text is due, how
+// many bytes the resolved path has, and the act.
 pub enum Settled {
     Refused(Refusal),
-    Decided(PermissionState, bool, bool, usize),
+    Decided(PermissionState, bool, bool, usize, Action),
 }
 
 // What check and request answer: a state, Granted where a check passes, or why the call is refused; whether the operator was asked; and how

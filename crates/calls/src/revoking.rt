@@ -24,7 +24,7 @@ ghost use Rattle.calls.specs.Calls.{revokeAct, Revokes};
 ghost use Rattle.calls.specs.Asking.{RevokesQuery};
 
 // The act of a revoke: of a path, or of all.
-fn revoke_action(d: Descriptor) -> Action
+pub fn revoke_action(d: Descriptor) -> Action
     ensures { λ r. ⌜ ((q : List ℕ) → actOf r q ≡ some (revokeAct (queryOf d q))) ⌝ }
 {
     match d {
@@ -34,7 +34,7 @@ fn revoke_action(d: Descriptor) -> Action
 }
 
 // A revoke of what is resolved, and what a query in mode partial then answers.
-fn revoke_query(mem: &mut [u8], numbers: Numbering, d: Descriptor, q: &[u8]) -> Answer
+pub fn revoke_query(mem: &mut [u8], numbers: Numbering, d: Descriptor, q: &[u8]) -> Answer
     requires { ⌜ holds (now mem) ≡ true ⌝ }
     requires { ⌜ isQuery (queryOf d (now q)) ≡ true ⌝ }
     ensures { λ r. ⌜ RevokesQuery numbers (queryOf d (now (q .entry))) (now (mem .entry)) (now (mem .exit)) r ⌝ }

@@ -8,7 +8,8 @@ use native.Mathlib.Omega.{arith}
 use lib.ListN.{length}
 use Rattle.refusals.specs.declared.Refusal.{Refusal}
 use Rattle.refusals.specs.declared.Refusal.the-variants.{NoTable}
-use Rattle.refusals.specs.Refusals.{refused, ok, andThen}
+use Rattle.refusals.specs.Refusals.{Result, refused, ok, andThen}
+use Rattle.table.specs.declared.Numbering.{Numbering}
 use Rattle.table.specs.declared.Numbering.the-variants.{Plain}
 use Rattle.table.specs.declared.Outcome.{Outcome}
 use Rattle.table.specs.Tables.{Table, fresh, pathBytes, every, any, present, marksOf, isTable}
@@ -23,7 +24,7 @@ use Rattle.child.specs.declared.ChildUnaryPermissionArg.{ChildUnaryPermi
 use Rattle.child.specs.declared.ChildUnaryPermissionArg.the-variants.{Inherit, Granted, NotGranted, GrantedList}
 use Rattle.child.specs.Arguments.{Item, Arguments, argOf, itemsOf, areInOrder, argumentsOf}
 use Rattle.child.specs.Making.{Made, then, itemStep, allItems, takeOver, takeOverActs, firstChild, completed, createChild}
-use Rattle.child.specs.Calls.{creation, childCall, refusalIn, askedIn, actsIn, childLeft, childAfter, CreatesChild}
+use Rattle.child.specs.Calls.{Creation, creation, childCall, refusalIn, askedIn, actsIn, childLeft, childAfter, CreatesChild}
 use Rattle.child.specs.Steps.{madeRefused, Makes, afterItems, Completes}
 use Rattle.child.specs.declared.ArgRead.the-variants.{Arg}
 use Rattle.child.proofs.ArgumentLaws.{Known, in-order}
@@ -43,14 +44,14 @@ left-then a b none {m} {c} e A B =
     (record { parent = acted-append (a .acts) (b .acts) (A .parent) (B .parent); child = acted-append (a .grants) (b .grants) (A .child) (B .child) })
 left-then a b (some cause) {m} {c} e A B = subst (λ (x : Made). Left x m c) (sym (then-stops a b e)) A
 
-pub items-left : (cwd : List ℕ) (items : List Item) (m c : List ℕ) → holds m ≡ true → holds c ≡ true → Left (allItems Plain cwd items (tableOf m) (tableOf c)) m c
-unfolding allItems past
-items-left cwd [] m c h k = record { parent = acted-none m h; child = acted-none c k }
-items-left cwd (i ∷ items) m c h k =
-    let made = itemStep Plain cwd i (tableOf m) (tableOf c) in
-    let P = item-parent cwd i m c h k in
-    let C = item-child cwd i m c h k in
-    let rest = items-left cwd items (doActs m (made .acts)) (doActs c (made .grants)) (P .holding) (C .holding) in
+pub items-left : (numbers : Numbering) (cwd : List ℕ) (items : List Item) (m c : List ℕ) → holds m ≡ true → holds c ≡ true → Left (allItems numbers cwd items (tableOf m) (tableOf c)) m c
+unfolding allItems
+items-left numbers cwd [] m c h k = record { parent = acted-none m h; child = acted-none c k }
+items-left numbers cwd (i ∷ items) m c h k =
+    let made = itemStep numbers cwd i (tableOf m) (tableOf c) in
+    let P = item-parent numbers cwd i m c h k in
+    let C = item-child numbers cwd i m c h k in
+    let rest = items-left (past numbers (made .acts)) cwd items (doActs m (made .acts)) (doActs c (made .grants)) (P .holding) (C .holding) in
     left-then made _ (made .refused) refl (record { parent = P; child = C }) (rw (P .table, C .table) at rest)
 
 -- ---- the first child
@@ -134,29 +135,36 @@ ends items rest (some cause) e f g = record {
   grants = λ c. ap (λ (x : Made). doActs c (x .grants)) (then-stops items rest e);
 }
 
+-- what a call is said to leave, whatever its checking order
+pub record Creates (call : Result Creation) (m c m′ c′ : List ℕ) (r : ChildMade) : Type 0 where
+  pub outcome : r .outcome ≡ outcomeOf (refusalIn call)
+  pub asked : r .asked ≡ askedIn call
+  pub parent : m′ ≡ doActs m (actsIn call)
+  pub child : c′ ≡ childAfter call c
+
 -- a call that has come through its items: the child's first memory c₁ is c₂, and the parent's memory m is m′
-pub record Ran (m c : List ℕ) (code : ℕ) (bytes ends responses cwd : List ℕ) (args : Arguments) (c₁ m′ c₂ : List ℕ) (r : ChildMade) : Type 0 where
+pub record Ran (numbers : Numbering) (m c : List ℕ) (code : ℕ) (bytes ends responses cwd : List ℕ) (args : Arguments) (c₁ m′ c₂ : List ℕ) (r : ChildMade) : Type 0 where
   pub holding : holds m ≡ true
   pub long : tableBytes ≤ length c
   pub read : argumentsOf code bytes ends responses ≡ ok args
   pub begun : c₁ ≡ put (firstChild (args .arg) (tableOf m)) c
-  pub made : Makes (allItems Plain cwd (args .items) (tableOf m) (tableOf c₁)) m c₁ m′ c₂ r
+  pub made : Makes (allItems numbers cwd (args .items) (tableOf m) (tableOf c₁)) m c₁ m′ c₂ r
 
-pub ran : (m c : List ℕ) (code : ℕ) (bytes ends-of responses cwd : List ℕ) {arg : ChildUnaryPermissionArg} {c₁ m′ c₂ : List ℕ} {r : ChildMade}
+pub ran : (numbers : Numbering) (m c : List ℕ) (code : ℕ) (bytes ends-of responses cwd : List ℕ) {arg : ChildUnaryPermissionArg} {c₁ m′ c₂ : List ℕ} {r : ChildMade}
     → holds m ≡ true → tableBytes ≤ length c → argOf code ≡ Arg arg → areInOrder arg bytes ends-of responses ≡ true → (K : Known responses)
     → c₁ ≡ put (firstChild arg (tableOf m)) c
-    → Makes (allItems Plain cwd (itemsOf arg bytes ends-of (K .responses)) (tableOf m) (tableOf c₁)) m c₁ m′ c₂ r
-    → Ran m c code bytes ends-of responses cwd (record { arg = arg; items = itemsOf arg bytes ends-of (K .responses) }) c₁ m′ c₂ r
-ran m c code bytes ends-of responses cwd h long a o K b M =
+    → Makes (allItems numbers cwd (itemsOf arg bytes ends-of (K .responses)) (tableOf m) (tableOf c₁)) m c₁ m′ c₂ r
+    → Ran numbers m c code bytes ends-of responses cwd (record { arg = arg; items = itemsOf arg bytes ends-of (K .responses) }) c₁ m′ c₂ r
+ran numbers m c code bytes ends-of responses cwd h long a o K b M =
     record { holding = h; long = long; read = in-order code bytes ends-of responses a (K .are) o; begun = b; made = M }
 
-module _ {m c : List ℕ} {code : ℕ} {bytes ends-of responses cwd : List ℕ} {args : Arguments} {c₁ m′ c₂ : List ℕ} {r : ChildMade}
-    (R : Ran m c code bytes ends-of responses cwd args c₁ m′ c₂ r) where
+module _ {numbers : Numbering} {m c : List ℕ} {code : ℕ} {bytes ends-of responses cwd : List ℕ} {args : Arguments} {c₁ m′ c₂ : List ℕ} {r : ChildMade}
+    (R : Ran numbers m c code bytes ends-of responses cwd args c₁ m′ c₂ r) where
   abbrev items : Made
-  items = allItems Plain cwd (args .items) (tableOf m) (tableOf c₁)
+  items = allItems numbers cwd (args .items) (tableOf m) (tableOf c₁)
 
   left : Left items m c₁
-  left = items-left cwd (args .items) m c₁ (R .holding) (first-held (args .arg) m c (R .holding) (R .long) (R .begun))
+  left = items-left numbers cwd (args .items) m c₁ (R .holding) (first-held (args .arg) m c (R .holding) (R .long) (R .begun))
 
   pub items-parent : holds m′ ≡ true
   items-parent = rw (R .made .parent) (left .parent .holding)
@@ -168,28 +176,42 @@ module _ {m c : List ℕ} {code : ℕ} {bytes ends-of responses cwd : List ℕ} 
   rest-is : takeOver (tableOf m′) (tableOf c₂) ≡ takeOver (applyActs (tableOf m) (items .acts)) (applyActs (tableOf c₁) (items .grants))
   rest-is = rw (R .made .parent, R .made .child, left .parent .table, left .child .table)
 
-  made-is : createChild Plain (tableOf m) args cwd ≡ then items (takeOver (tableOf m′) (tableOf c₂))
+  made-is : createChild numbers (tableOf m) args cwd ≡ then items (takeOver (tableOf m′) (tableOf c₂))
   unfolding createChild completed
   made-is = rw (rest-is, ← first-is (args .arg) m c (R .holding) (R .long) (R .begun))
 
-  pub creates : {c₃ : List ℕ} {a : ChildMade} → Completes (afterItems (r .outcome) (takeOver (tableOf m′) (tableOf c₂))) (r .asked) c₂ c₃ a
-      → CreatesChild m c code bytes ends-of responses cwd m′ c₃ a
-  unfolding refusalIn askedIn actsIn childAfter creation
-  creates C =
+  -- the acts on the parent are those of the items
+  pub acts-are : {call : Result Creation} → call ≡ ok (creation numbers (tableOf m) cwd args) → actsIn call ≡ items .acts
+  unfolding actsIn creation
+  acts-are call =
+      let E = ends items (takeOver (tableOf m′) (tableOf c₂)) (items .refused) refl (over-asked (tableOf m′) (tableOf c₂)) (over-acts (tableOf m′) (tableOf c₂)) in
+      rw call (ap (λ (x : Made). x .acts) made-is ∙ E .acts)
+
+  pub creates-by : {call : Result Creation} {c₃ : List ℕ} {a : ChildMade} → call ≡ ok (creation numbers (tableOf m) cwd args)
+      → Completes (afterItems (r .outcome) (takeOver (tableOf m′) (tableOf c₂))) (r .asked) c₂ c₃ a → Creates call m c m′ c₃ a
+  unfolding refusalIn askedIn childAfter creation
+  creates-by call C =
       let rest = takeOver (tableOf m′) (tableOf c₂) in
       let E = ends items rest (items .refused) refl (over-asked (tableOf m′) (tableOf c₂)) (over-acts (tableOf m′) (tableOf c₂)) in
-      let call = child-known m c code bytes ends-of responses cwd (R .holding) (R .long) args (R .read) in
       let M = R .made in
       let after = ap (λ (o : Outcome). afterItems o rest) (M .outcome) in
-      let refusal : createChild Plain (tableOf m) args cwd .refused ≡ afterItems (r .outcome) rest .refused =
+      let refusal : createChild numbers (tableOf m) args cwd .refused ≡ afterItems (r .outcome) rest .refused =
       ap (λ (x : Made). x .refused) made-is ∙ E .refusal ∙ ap (λ (x : Made). x .refused) (sym after) in
-      let grants : doActs c₂ (afterItems (r .outcome) rest .grants) ≡ doActs c₁ (createChild Plain (tableOf m) args cwd .grants) =
+      let grants : doActs c₂ (afterItems (r .outcome) rest .grants) ≡ doActs c₁ (createChild numbers (tableOf m) args cwd .grants) =
       ap (λ (x : Made). doActs c₂ (x .grants)) after ∙ ap (λ (l : List ℕ). doActs l (afterItems (outcomeOf (items .refused)) rest .grants)) (M .child)
       ∙ sym (E .grants c₁) ∙ ap (λ (x : Made). doActs c₁ (x .grants)) (sym made-is) in
       record {
         outcome = C .outcome ∙ ap outcomeOf (sym refusal) ∙ rw call;
         asked = C .times ∙ M .asked ∙ sym (E .times) ∙ ap (λ (x : Made). x .asked) (sym made-is) ∙ rw call;
-        parent = M .parent ∙ ap (doActs m) (sym (ap (λ (x : Made). x .acts) made-is ∙ E .acts)) ∙ rw call;
+        parent = M .parent ∙ ap (doActs m) (sym (acts-are call));
         child = C .child ∙ ap (λ (o : Option Refusal). childLeft o (doActs c₂ (afterItems (r .outcome) rest .grants))) (sym refusal)
-            ∙ ap (childLeft (createChild Plain (tableOf m) args cwd .refused)) (grants ∙ ap (λ (l : List ℕ). doActs l (createChild Plain (tableOf m) args cwd .grants)) (R .begun)) ∙ rw call;
+            ∙ ap (childLeft (createChild numbers (tableOf m) args cwd .refused)) (grants ∙ ap (λ (l : List ℕ). doActs l (createChild numbers (tableOf m) args cwd .grants)) (R .begun)) ∙ rw call;
       }
+
+-- a plain call
+pub creates : {m c : List ℕ} {code : ℕ} {bytes ends-of responses cwd : List ℕ} {args : Arguments} {c₁ m′ c₂ : List ℕ} {r : ChildMade}
+    → Ran Plain m c code bytes ends-of responses cwd args c₁ m′ c₂ r → {c₃ : List ℕ} {a : ChildMade}
+    → Completes (afterItems (r .outcome) (takeOver (tableOf m′) (tableOf c₂))) (r .asked) c₂ c₃ a → CreatesChild m c code bytes ends-of responses cwd m′ c₃ a
+creates {m} {c} {code} {bytes} {ends-of} {responses} {cwd} {args} R C =
+    let B = creates-by R (child-known m c code bytes ends-of responses cwd (R .holding) (R .long) args (R .read)) C in
+    record { outcome = B .outcome; asked = B .asked; parent = B .parent; child = B .child }

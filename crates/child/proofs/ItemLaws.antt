@@ -13,12 +13,13 @@ use Rattle.paths.specs.declared.Descriptor.the-variants.{NoPath, Path}
 use Rattle.paths.specs.Resolving.{resolve}
 use Rattle.paths.specs.Giving.{Query, queryOf}
 use Rattle.paths.proofs.GivingLaws.{Stands}
+use Rattle.table.specs.declared.Action.{Action}
 use Rattle.table.specs.declared.Numbering.{Numbering}
 use Rattle.table.specs.declared.Numbering.the-variants.{Plain}
 use Rattle.table.specs.declared.Outcome.{Outcome}
 use Rattle.table.specs.declared.Outcome.the-variants as outcome
 use Rattle.table.specs.Tables.{Table}
-use Rattle.table.specs.Acts.{applyActs}
+use Rattle.table.specs.Acts.{Act, applyActs}
 use Rattle.table.specs.Memory.{tableOf, holds, doActs}
 use Rattle.table.specs.Carrying.{past, outcomeOf}
 use Rattle.table.proofs.ActLaws.{acts-append, Acted, acted-none, outcome-done, outcome-refused}
@@ -56,23 +57,23 @@ item-asked : (decision : Decision) (q : Query) (u : Table) → itemBy (ok decisi
 unfolding itemBy checked onward
 item-asked decision q u = rw (passed-asked (decision .state) q u) (omega arith)
 
-module _ {d : Descriptor} {p cwd : List ℕ} {response : PromptResponse} {m s m′ s′ : List ℕ} {r : Settled}
-    (S : Settles Check Plain m d p cwd response s m′ s′ r) where
+module _ {numbers : Numbering} {d : Descriptor} {p cwd : List ℕ} {response : PromptResponse} {m s m′ s′ : List ℕ} {r : Settled}
+    (S : Settles Check numbers m d p cwd response s m′ s′ r) where
   -- the parent's check is refused
   pub item-refused : {cause : Refusal} (c : List ℕ) {a : ChildMade} → r ≡ settled-as.Refused cause → a ≡ madeRefused cause 0
-      → Makes (itemStep Plain cwd (record { descriptor = d; given = p; response = response }) (tableOf m) (tableOf c)) m c m′ c a
+      → Makes (itemStep numbers cwd (record { descriptor = d; given = p; response = response }) (tableOf m) (tableOf c)) m c m′ c a
   unfolding itemStep itemBy outcomeOf doActs
   item-refused c e f = rw f (record {
     outcome = rw (settled-refused S e);
     asked = rw (settled-refused S e);
-    parent = S .memory ∙ ap (doActs m) (sym (item-acts (settled Check Plain (tableOf m) d p cwd response) _ (tableOf c)));
+    parent = S .memory ∙ ap (doActs m) (sym (item-acts (settled Check numbers (tableOf m) d p cwd response) _ (tableOf c)));
     child = rw (settled-refused S e);
   })
 
   -- it comes to an end, and what passes is granted
-  pub item-made : {state : PermissionState} {asked writes : Bool} {n : ℕ} {c c′ : List ℕ} {o : Outcome} {k : ℕ} → r ≡ settled-as.Decided state asked writes n
+  pub item-made : {state : PermissionState} {asked writes : Bool} {n : ℕ} {c c′ : List ℕ} {o : Outcome} {k : ℕ} {action : Action} → r ≡ settled-as.Decided state asked writes n action
       → MakesChild (passedOn state (queryOf d (take n s′)) (tableOf c)) c c′ o → k ≡ countOf asked
-      → Makes (itemStep Plain cwd (record { descriptor = d; given = p; response = response }) (tableOf m) (tableOf c)) m c m′ c′ (record { outcome = o; asked = k })
+      → Makes (itemStep numbers cwd (record { descriptor = d; given = p; response = response }) (tableOf m) (tableOf c)) m c m′ c′ (record { outcome = o; asked = k })
   unfolding itemStep
   item-made {c = c} e M f =
       let T = settled-told S e in
@@ -81,29 +82,29 @@ module _ {d : Descriptor} {p cwd : List ℕ} {response : PromptResponse} {m s m�
       record {
         outcome = P .outcome ∙ ap outcomeOf (sym (ap (λ (x : Result Decision). itemBy x (queryOf d (resolve p cwd)) (tableOf c) .refused) (T .is) ∙ item-outcome (T .decision) _ (tableOf c)));
         asked = f ∙ ap countOf (T .asked-is) ∙ sym (ap (λ (x : Result Decision). itemBy x (queryOf d (resolve p cwd)) (tableOf c) .asked) (T .is) ∙ item-asked (T .decision) _ (tableOf c));
-        parent = S .memory ∙ ap (doActs m) (sym (item-acts (settled Check Plain (tableOf m) d p cwd response) _ (tableOf c)));
-        child = P .child ∙ ap (doActs c) (sym (item-grants (settled Check Plain (tableOf m) d p cwd response) _ (tableOf c) (T .is)));
+        parent = S .memory ∙ ap (doActs m) (sym (item-acts (settled Check numbers (tableOf m) d p cwd response) _ (tableOf c)));
+        child = P .child ∙ ap (doActs c) (sym (item-grants (settled Check numbers (tableOf m) d p cwd response) _ (tableOf c) (T .is)));
       }
 
 -- ---- what memory has that an item left
 
-module _ (cwd : List ℕ) (i : Item) (m c : List ℕ) (h : holds m ≡ true) (k : holds c ≡ true) where
-  pub item-parent : Acted m (itemStep Plain cwd i (tableOf m) (tableOf c) .acts)
+module _ (numbers : Numbering) (cwd : List ℕ) (i : Item) (m c : List ℕ) (h : holds m ≡ true) (k : holds c ≡ true) where
+  pub item-parent : Acted m (itemStep numbers cwd i (tableOf m) (tableOf c) .acts)
   unfolding itemStep
-  item-parent = rw (item-acts (settled Check Plain (tableOf m) (i .descriptor) (i .given) cwd (i .response)) (queryOf (i .descriptor) (resolve (i .given) cwd)) (tableOf c))
-      (settled-acted Check Plain m (i .descriptor) (i .given) cwd (i .response) h)
+  item-parent = rw (item-acts (settled Check numbers (tableOf m) (i .descriptor) (i .given) cwd (i .response)) (queryOf (i .descriptor) (resolve (i .given) cwd)) (tableOf c))
+      (settled-acted Check numbers m (i .descriptor) (i .given) cwd (i .response) h)
 
-  child-by : (r : Result Decision) → settled Check Plain (tableOf m) (i .descriptor) (i .given) cwd (i .response) ≡ r
+  child-by : (r : Result Decision) → settled Check numbers (tableOf m) (i .descriptor) (i .given) cwd (i .response) ≡ r
       → Acted c (itemBy r (queryOf (i .descriptor) (resolve (i .given) cwd)) (tableOf c) .grants)
   child-by (refused cause) e = unfold itemBy in acted-none c k
   child-by (ok decision) e =
-      let S = decided-stands Check Plain (tableOf m) (i .descriptor) (i .given) cwd (i .response) [] e in
+      let S = decided-stands Check numbers (tableOf m) (i .descriptor) (i .given) cwd (i .response) [] e in
       rw (item-grants (ok decision) (queryOf (i .descriptor) (resolve (i .given) cwd)) (tableOf c) {decision = decision} refl)
       (pass-acted (decision .state) _ c k (rw (stands-query S) at (S .fits)))
 
-  pub item-child : Acted c (itemStep Plain cwd i (tableOf m) (tableOf c) .grants)
+  pub item-child : Acted c (itemStep numbers cwd i (tableOf m) (tableOf c) .grants)
   unfolding itemStep
-  item-child = child-by (settled Check Plain (tableOf m) (i .descriptor) (i .given) cwd (i .response)) refl
+  item-child = child-by (settled Check numbers (tableOf m) (i .descriptor) (i .given) cwd (i .response)) refl
 
 asked-by : (r : Result Decision) (q : Query) (u : Table) → itemBy r q u .asked ≤ 1
 asked-by (refused cause) q u = unfold itemBy in omega arith
@@ -144,8 +145,8 @@ module _ (k : ℕ) {a : Made} {m c m₁ c₁ : List ℕ} {r : ChildMade} (A : Ma
         child = B .child ∙ ap (λ (l : List ℕ). doActs l (b .grants)) (A .child) ∙ sym (acts-append c (a .grants) (b .grants));
       })
 
--- The items from i on are still to come: whatever they make of m and c, the whole list makes of m₀ and c₀.
-pub record Going (cwd bytes ends responses m₀ c₀ m c : List ℕ) (asked from i : ℕ) : Type 0 where
+-- The items from i on are still to come, numbered so: whatever they make of m and c, the whole list makes of m₀ and c₀.
+pub record Going (numbers₀ numbers : Numbering) (cwd bytes ends responses m₀ c₀ m c : List ℕ) (asked from i : ℕ) : Type 0 where
   pub parent : holds m ≡ true
   pub child : holds c ≡ true
   pub same-parent : length m ≡ length m₀
@@ -153,13 +154,13 @@ pub record Going (cwd bytes ends responses m₀ c₀ m c : List ℕ) (asked from
   pub few : asked ≤ i
   pub closes : closeAt (length bytes) from (drop i ends) ≡ true
   pub goes : (known : List PromptResponse) → knownResponses responses ≡ ok known → (m′ c′ : List ℕ) (r : ChildMade)
-      → Makes (counted asked (allItems Plain cwd (listItems bytes from (drop i ends) (drop i known)) (tableOf m) (tableOf c))) m c m′ c′ r
-      → Makes (allItems Plain cwd (listItems bytes 0 ends known) (tableOf m₀) (tableOf c₀)) m₀ c₀ m′ c′ r
+      → Makes (counted asked (allItems numbers cwd (listItems bytes from (drop i ends) (drop i known)) (tableOf m) (tableOf c))) m c m′ c′ r
+      → Makes (allItems numbers₀ cwd (listItems bytes 0 ends known) (tableOf m₀) (tableOf c₀)) m₀ c₀ m′ c′ r
 
-pub going-start : (cwd bytes ends responses m c : List ℕ) → holds m ≡ true → holds c ≡ true → closeAt (length bytes) 0 ends ≡ true
-    → Going cwd bytes ends responses m c m c 0 0 0
+pub going-start : (numbers : Numbering) (cwd bytes ends responses m c : List ℕ) → holds m ≡ true → holds c ≡ true → closeAt (length bytes) 0 ends ≡ true
+    → Going numbers numbers cwd bytes ends responses m c m c 0 0 0
 unfolding counted
-going-start cwd bytes ends responses m c h k e = record {
+going-start numbers cwd bytes ends responses m c h k e = record {
   parent = h;
   child = k;
   same-parent = refl;
@@ -170,7 +171,7 @@ going-start cwd bytes ends responses m c h k e = record {
 }
 
 -- the next item of the list
-next-item : (cwd bytes : List ℕ) (from : ℕ) (ends : List ℕ) (i : ℕ) (responses : List ℕ) (known : List PromptResponse) {response : PromptResponse}
+pub next-item : (cwd bytes : List ℕ) (from : ℕ) (ends : List ℕ) (i : ℕ) (responses : List ℕ) (known : List PromptResponse) {response : PromptResponse}
     → i < length ends → i < length responses → knownResponses responses ≡ ok known → responseOf (getD responses i 0) ≡ response-read.Response response
     → listItems bytes from (drop i ends) (drop i known)
     ≡ record { descriptor = Path; given = take (getD ends i 0 - from) (drop from bytes); response = response }
@@ -178,31 +179,31 @@ next-item : (cwd bytes : List ℕ) (from : ℕ) (ends : List ℕ) (i : ℕ) (res
 unfolding listItems
 next-item cwd bytes from ends i responses known h l k e = rw (drop-next ends i h, known-drop responses known i k l e)
 
-module _ {cwd bytes ends responses m₀ c₀ m c : List ℕ} {asked from i : ℕ} (G : Going cwd bytes ends responses m₀ c₀ m c asked from i)
+module _ {numbers₀ numbers : Numbering} {cwd bytes ends responses m₀ c₀ m c : List ℕ} {asked from i : ℕ} (G : Going numbers₀ numbers cwd bytes ends responses m₀ c₀ m c asked from i)
     (h : i < length ends) (l : i < length responses) {response : PromptResponse} (e : responseOf (getD responses i 0) ≡ response-read.Response response)
     {end : ℕ} (f : end ≡ getD ends i 0) where
   abbrev item : Item
   item = record { descriptor = Path; given = take (end - from) (drop from bytes); response = response }
 
-  first-item : (known : List PromptResponse) → knownResponses responses ≡ ok known
-      → allItems Plain cwd (listItems bytes from (drop i ends) (drop i known)) (tableOf m) (tableOf c)
-      ≡ then (itemStep Plain cwd item (tableOf m) (tableOf c))
-      (allItems Plain cwd (listItems bytes end (drop (i + 1) ends) (drop (i + 1) known))
-      (applyActs (tableOf m) (itemStep Plain cwd item (tableOf m) (tableOf c) .acts))
-      (applyActs (tableOf c) (itemStep Plain cwd item (tableOf m) (tableOf c) .grants)))
-  unfolding allItems past
+  pub first-item : (known : List PromptResponse) → knownResponses responses ≡ ok known
+      → allItems numbers cwd (listItems bytes from (drop i ends) (drop i known)) (tableOf m) (tableOf c)
+      ≡ then (itemStep numbers cwd item (tableOf m) (tableOf c))
+      (allItems (past numbers (itemStep numbers cwd item (tableOf m) (tableOf c) .acts)) cwd (listItems bytes end (drop (i + 1) ends) (drop (i + 1) known))
+      (applyActs (tableOf m) (itemStep numbers cwd item (tableOf m) (tableOf c) .acts))
+      (applyActs (tableOf c) (itemStep numbers cwd item (tableOf m) (tableOf c) .grants)))
+  unfolding allItems
   first-item known k = rw (f) (rw (next-item cwd bytes from ends i responses known h l k e))
 
-  module _ {m₁ c₁ : List ℕ} {r : ChildMade} (A : Makes (itemStep Plain cwd item (tableOf m) (tableOf c)) m c m₁ c₁ r) where
+  module _ {m₁ c₁ : List ℕ} {r : ChildMade} (A : Makes (itemStep numbers cwd item (tableOf m) (tableOf c)) m c m₁ c₁ r) where
     -- its outcome counts once at most
     pub going-once : r .asked ≤ 1
-    going-once = rw (A .asked) (item-once Plain cwd item (tableOf m) (tableOf c))
+    going-once = rw (A .asked) (item-once numbers cwd item (tableOf m) (tableOf c))
 
-    left-parent : Acted m (itemStep Plain cwd item (tableOf m) (tableOf c) .acts)
-    left-parent = item-parent cwd item m c (G .parent) (G .child)
+    pub left-parent : Acted m (itemStep numbers cwd item (tableOf m) (tableOf c) .acts)
+    left-parent = item-parent numbers cwd item m c (G .parent) (G .child)
 
-    left-child : Acted c (itemStep Plain cwd item (tableOf m) (tableOf c) .grants)
-    left-child = item-child cwd item m c (G .parent) (G .child)
+    pub left-child : Acted c (itemStep numbers cwd item (tableOf m) (tableOf c) .grants)
+    left-child = item-child numbers cwd item m c (G .parent) (G .child)
 
     pub going-parent : length m₁ ≡ length m₀
     going-parent = ap length (A .parent) ∙ left-parent .same ∙ G .same-parent
@@ -212,39 +213,45 @@ module _ {cwd bytes ends responses m₀ c₀ m c : List ℕ} {asked from i : ℕ
 
     pub going-stops : {cause : Refusal} {n : ℕ} {a : ChildMade} → r .outcome ≡ outcome.Refused cause → n ≡ asked + r .asked → a ≡ madeRefused cause n
         → (known : List PromptResponse) → knownResponses responses ≡ ok known
-        → Makes (allItems Plain cwd (listItems bytes 0 ends known) (tableOf m₀) (tableOf c₀)) m₀ c₀ m₁ c₁ a
+        → Makes (allItems numbers₀ cwd (listItems bytes 0 ends known) (tableOf m₀) (tableOf c₀)) m₀ c₀ m₁ c₁ a
     going-stops o n g known k = G .goes known k m₁ c₁ _ (rw (g, first-item known k) (makes-stop asked A _ o n))
 
-    pub going-next : {n : ℕ} → r .outcome ≡ outcome.Done → n ≡ asked + r .asked → Going cwd bytes ends responses m₀ c₀ m₁ c₁ n end (i + 1)
-    going-next {n} o g = record {
+    pub going-next : {n : ℕ} {next : Numbering} → r .outcome ≡ outcome.Done → n ≡ asked + r .asked
+        → next ≡ past numbers (itemStep numbers cwd item (tableOf m) (tableOf c) .acts) → Going numbers₀ next cwd bytes ends responses m₀ c₀ m₁ c₁ n end (i + 1)
+    going-next {n} o g p = record {
       parent = rw (A .parent) (left-parent .holding);
       child = rw (A .child) (left-child .holding);
       same-parent = going-parent;
       child-length = going-child;
-      few = omega (arith, G .few, A .asked, item-once Plain cwd item (tableOf m) (tableOf c));
+      few = omega (arith, G .few, A .asked, item-once numbers cwd item (tableOf m) (tableOf c));
       closes = rw f (closing-next (length bytes) from ends i h (G .closes) .rest);
       goes = λ known k m′ c′ r′ M.
-          let tables : (tableOf m₁ ≡ applyActs (tableOf m) (itemStep Plain cwd item (tableOf m) (tableOf c) .acts)) = ap tableOf (A .parent) ∙ left-parent .table in
-          let others : (tableOf c₁ ≡ applyActs (tableOf c) (itemStep Plain cwd item (tableOf m) (tableOf c) .grants)) = ap tableOf (A .child) ∙ left-child .table in
-          G .goes known k m′ c′ r′ (rw (first-item known k) (makes-then asked A _ o g (rw (tables, others) at M)));
+          let tables : (tableOf m₁ ≡ applyActs (tableOf m) (itemStep numbers cwd item (tableOf m) (tableOf c) .acts)) = ap tableOf (A .parent) ∙ left-parent .table in
+          let others : (tableOf c₁ ≡ applyActs (tableOf c) (itemStep numbers cwd item (tableOf m) (tableOf c) .grants)) = ap tableOf (A .child) ∙ left-child .table in
+          G .goes known k m′ c′ r′ (rw (first-item known k) (makes-then asked A _ o g (rw (p, tables, others) at M)));
     }
 
-pub going-done : {cwd bytes ends responses m₀ c₀ m c : List ℕ} {asked from i : ℕ} → Going cwd bytes ends responses m₀ c₀ m c asked from i → length ends ≤ i
+pub going-done : {numbers₀ numbers : Numbering} {cwd bytes ends responses m₀ c₀ m c : List ℕ} {asked from i : ℕ} → Going numbers₀ numbers cwd bytes ends responses m₀ c₀ m c asked from i → length ends ≤ i
     → {a : ChildMade} → a ≡ madeDone asked → (known : List PromptResponse) → knownResponses responses ≡ ok known
-    → Makes (allItems Plain cwd (listItems bytes 0 ends known) (tableOf m₀) (tableOf c₀)) m₀ c₀ m c a
+    → Makes (allItems numbers₀ cwd (listItems bytes 0 ends known) (tableOf m₀) (tableOf c₀)) m₀ c₀ m c a
 unfolding counted listItems allItems outcomeOf doActs
 going-done {ends = ends} {m = m} {c = c} {asked = asked} G l e known k =
     G .goes known k m c _ (rw (e, drop-of-length-le ends l) (record { outcome = refl; asked = omega arith; parent = refl; child = refl }))
 
+-- a plain call numbers no act
+pub plain-past : (acts : List Act) → Plain ≡ past Plain acts
+unfolding past
+plain-past acts = refl
+
 -- ---- the items of any argument
 
-module _ {arg : ChildUnaryPermissionArg} (cwd bytes ends : List ℕ) (known : List PromptResponse) {m c : List ℕ} {a : ChildMade} where
+module _ (numbers : Numbering) {arg : ChildUnaryPermissionArg} (cwd bytes ends : List ℕ) (known : List PromptResponse) {m c : List ℕ} {a : ChildMade} where
   -- none
-  pub all-inherited : arg ≡ Inherit → a ≡ madeDone 0 → Makes (allItems Plain cwd (itemsOf arg bytes ends known) (tableOf m) (tableOf c)) m c m c a
+  pub all-inherited : arg ≡ Inherit → a ≡ madeDone 0 → Makes (allItems numbers cwd (itemsOf arg bytes ends known) (tableOf m) (tableOf c)) m c m c a
   unfolding itemsOf allItems outcomeOf doActs
   all-inherited e f = rw (e, f) (record { outcome = refl; asked = refl; parent = refl; child = refl })
 
-  pub all-refused : arg ≡ NotGranted → a ≡ madeDone 0 → Makes (allItems Plain cwd (itemsOf arg bytes ends known) (tableOf m) (tableOf c)) m c m c a
+  pub all-refused : arg ≡ NotGranted → a ≡ madeDone 0 → Makes (allItems numbers cwd (itemsOf arg bytes ends known) (tableOf m) (tableOf c)) m c m c a
   unfolding itemsOf allItems outcomeOf doActs
   all-refused e f = rw (e, f) (record { outcome = refl; asked = refl; parent = refl; child = refl })
 
@@ -260,17 +267,17 @@ makes-alone a none {m} {c} {m′} {c′} {r} e A =
     })
 makes-alone a (some cause) {m} {c} {m′} {c′} {r} e A = subst (λ (x : Made). Makes x m c m′ c′ r) (sym (then-stops a nothing e)) A
 
-pub all-one : {arg : ChildUnaryPermissionArg} (cwd bytes ends responses : List ℕ) (known : List PromptResponse) {response : PromptResponse} {m c m′ c′ : List ℕ} {r : ChildMade}
+pub all-one : (numbers : Numbering) {arg : ChildUnaryPermissionArg} (cwd bytes ends responses : List ℕ) (known : List PromptResponse) {response : PromptResponse} {m c m′ c′ : List ℕ} {r : ChildMade}
     → arg ≡ Granted → 0 < length responses → knownResponses responses ≡ ok known → responseOf (getD responses 0 0) ≡ response-read.Response response
-    → Makes (itemStep Plain cwd (record { descriptor = NoPath; given = []; response = response }) (tableOf m) (tableOf c)) m c m′ c′ r
-    → Makes (allItems Plain cwd (itemsOf arg bytes ends known) (tableOf m) (tableOf c)) m c m′ c′ r
+    → Makes (itemStep numbers cwd (record { descriptor = NoPath; given = []; response = response }) (tableOf m) (tableOf c)) m c m′ c′ r
+    → Makes (allItems numbers cwd (itemsOf arg bytes ends known) (tableOf m) (tableOf c)) m c m′ c′ r
 unfolding itemsOf grantedItem allItems
-all-one cwd bytes ends responses known g h k e A =
+all-one numbers cwd bytes ends responses known g h k e A =
     rw (g, known-drop responses known 0 k h e) (makes-alone _ _ refl A)
 
 -- a list
-pub all-list : {arg : ChildUnaryPermissionArg} (cwd bytes ends : List ℕ) (known : List PromptResponse) {m c m′ c′ : List ℕ} {r : ChildMade} → arg ≡ GrantedList
-    → Makes (allItems Plain cwd (listItems bytes 0 ends known) (tableOf m) (tableOf c)) m c m′ c′ r
-    → Makes (allItems Plain cwd (itemsOf arg bytes ends known) (tableOf m) (tableOf c)) m c m′ c′ r
+pub all-list : (numbers : Numbering) {arg : ChildUnaryPermissionArg} (cwd bytes ends : List ℕ) (known : List PromptResponse) {m c m′ c′ : List ℕ} {r : ChildMade} → arg ≡ GrantedList
+    → Makes (allItems numbers cwd (listItems bytes 0 ends known) (tableOf m) (tableOf c)) m c m′ c′ r
+    → Makes (allItems numbers cwd (itemsOf arg bytes ends known) (tableOf m) (tableOf c)) m c m′ c′ r
 unfolding itemsOf
-all-list cwd bytes ends known g A = rw g A
+all-list numbers cwd bytes ends known g A = rw g A

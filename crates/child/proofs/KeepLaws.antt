@@ -95,7 +95,7 @@ created : (m c cwd : List ℕ) (args : Arguments) → holds m ≡ true → holds
 unfolding completed
 created m c cwd args h k =
     let items = allItems Plain cwd (args .items) (tableOf m) (tableOf c) in
-    let L = items-left cwd (args .items) m c h k in
+    let L = items-left Plain cwd (args .items) m c h k in
     let rest = over-acted (doActs m (items .acts)) (doActs c (items .grants)) (L .parent .holding) (L .child .holding) in
     left-then items _ (items .refused) refl L (rw (L .parent .table, L .child .table) at rest)
 

@@ -15,7 +15,7 @@ ghost use Rattle.child.specs.Arguments.{argOf, closeAt, responsesDue, it
 ghost use Rattle.child.specs.Steps.{areResponses};
 
 // The argument that a child code names.
-pub(crate) fn arg_of(code: u32) -> ArgRead
+pub fn arg_of(code: u32) -> ArgRead
     ensures { λ r. ⌜ r ≡ argOf code ⌝ }
 {
     match code {
@@ -28,7 +28,7 @@ pub(crate) fn arg_of(code: u32) -> ArgRead
 }
 
 // Whether every answer is known.
-pub(crate) fn are_responses(responses: &[u32]) -> bool
+pub fn are_responses(responses: &[u32]) -> bool
     ensures { λ r. ⌜ r ≡ areResponses (now (responses .entry)) ⌝ }
 {
     let mut i: usize = 0;
@@ -42,7 +42,7 @@ pub(crate) fn are_responses(responses: &[u32]) -> bool
 }
 
 // The answer at a place of answers that are all known.
-pub(crate) fn response_at(responses: &[u32], i: usize) -> PromptResponse
+pub fn response_at(responses: &[u32], i: usize) -> PromptResponse
     requires { ⌜ (areResponses (now responses) ≡ true) × (i < length (now responses)) ⌝ }
     ensures { λ r. ⌜ responseOf (getD (now (responses .entry)) i 0) ≡ Response r ⌝ }
 {
@@ -95,7 +95,7 @@ fn items_fit(arg: ChildUnaryPermissionArg, ends: &[u32]) -> bool
 
 // Whether the items are not too many and in order, and the answers as many as are due. The bytes of the items stand one after the other, each
 // up to its end position.
-pub(crate) fn are_in_order(
+pub fn are_in_order(
     arg: ChildUnaryPermissionArg,
     bytes: &[u8],
     ends: &[u32],

@@ -34,7 +34,7 @@ fn give_up(child: &mut [u8], cause: Refusal, asked: usize) -> ChildMade
 }
 
 // Once the items are through: what the child takes over.
-fn complete(parent: &[u8], child: &mut [u8], asked: usize, outcome: Outcome) -> ChildMade
+pub fn complete(parent: &[u8], child: &mut [u8], asked: usize, outcome: Outcome) -> ChildMade
     requires { ⌜ (holds (now parent) ≡ true) × (holds (now child) ≡ true) ⌝ }
     ensures { λ r. ⌜ Completes (afterItems outcome (takeOver (tableOf (now (parent .entry))) (tableOf (now (child .entry))))) asked (now (child .entry)) (now (child .exit)) r ⌝ }
 {

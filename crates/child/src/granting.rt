@@ -45,7 +45,7 @@ pub(crate) fn done(asked: usize) -> ChildMade
 }
 
 // Once, if the operator was asked.
-fn count_of(asked: bool) -> usize
+pub fn count_of(asked: bool) -> usize
     ensures { λ r. ⌜ r ≡ countOf asked ⌝ }
 {
     if asked {
@@ -69,7 +69,7 @@ fn is_passed(state: PermissionState) -> bool
 }
 
 // What the child is granted if the parent's check passes: a path, or with none switch 1.
-fn pass_on(child: &mut [u8], state: PermissionState, d: Descriptor, q: &[u8]) -> Outcome
+pub fn pass_on(child: &mut [u8], state: PermissionState, d: Descriptor, q: &[u8]) -> Outcome
     requires { ⌜ holds (now child) ≡ true ⌝ }
     requires { ⌜ isQuery (queryOf d (now q)) ≡ true ⌝ }
     ensures { λ r. ⌜ MakesChild (passedOn state (queryOf d (now (q .entry))) (tableOf (now (child .entry)))) (now (child .entry)) (now (child .exit)) r ⌝ }
@@ -105,7 +105,7 @@ fn grant_item(
         &mut resolved,
     ) {
         Settled::Refused(cause) => refused(cause, 0),
-        Settled::Decided(state, asked, _, n) => {
+        Settled::Decided(state, asked, _, n, _) => {
             let outcome = pass_on(child, state, d, &resolved[..n]);
             ChildMade {
                 outcome,

@@ -24,7 +24,7 @@ ghost use Rattle.child.specs.Making.{grantedBy, granting, childSwitches,
 ghost use Rattle.child.specs.Steps.{MakesChild, reinsertedBy};
 
 // The child's first table: its parent's copy, or a fresh one.
-pub(crate) fn begin(parent: &[u8], child: &mut [u8], arg: ChildUnaryPermissionArg)
+pub fn begin(parent: &[u8], child: &mut [u8], arg: ChildUnaryPermissionArg)
     requires { ⌜ (holds (now parent) ≡ true) × (tableBytes ≤ length (now child)) ⌝ }
     ensures { λ _. ⌜ now (child .exit) ≡ put (firstChild arg (tableOf (now (parent .entry)))) (now (child .entry)) ⌝ }
 {

@@ -34,7 +34,7 @@ const MAX_PATH_BYTES: usize = 32768;
 
 const MAX_KIND: u8 = 3;
 
-const MAX_SWITCHES: u8 = 31;
+pub const MAX_SWITCHES: u8 = 31;
 
 // The greatest change number.
 const MAX_NUMBER: u64 = 16777215;

@@ -34,7 +34,7 @@ pub fn word_at(mem: &[u8], at: usize) -> usize
 }
 
 // The kind that a number names.
-pub(crate) fn kind_of(n: u32) -> KindRead
+pub fn kind_of(n: u32) -> KindRead
     ensures { λ r. ⌜ r ≡ kindOf n ⌝ }
 {
     match n {

@@ -2,6 +2,7 @@
 use mathlib.Core.Path.{sym, _∙_}
 use native.Mathlib.Omega.{arith}
 use borrow.Author.Tests.{not-true, not-false}
+use Rattle.table.specs.declared.Numbering.the-variants.{Plain}
 use Rattle.child.proofs.ArgumentLaws.{all-known, no-arg, no-responses, no-order}
 use Rattle.child.proofs.CreatingLaws.{
   first-held,
@@ -134,7 +135,7 @@ complete-requires c κs =
     let arg = sym (read .before .before .arg-of .ensures) ∙ read .arg .given .1 in
     let known = all-known _ (sym (answered .before .are-responses .ensures) ∙ not-false _ (answered .if3 .left)) in
     let order = sym (ordered .before .are-in-order .ensures) ∙ not-false _ (ordered .if4 .left) in
-    let through = ran _ _ _ _ _ _ _ table (omega arith) arg order known (begun .begin .ensures) (granted .grant-all .ensures (known .responses) (known .are)) in
+    let through = ran Plain _ _ _ _ _ _ _ table (omega arith) arg order known (begun .begin .ensures) (granted .grant-all .ensures (known .responses) (known .are)) in
     (items-parent through, items-child through)
 
 same-length-6 : tie.Need-same-length-6
@@ -156,7 +157,7 @@ returns-6 c =
     let known = all-known _ (sym (answered .before .are-responses .ensures) ∙ not-false _ (answered .if3 .left)) in
     let order = sym (ordered .before .are-in-order .ensures) ∙ not-false _ (ordered .if4 .left) in
     creates
-    (ran _ _ _ _ _ _ _ table (omega (arith, read .before .before .before .if2 .left)) arg order known (begun .begin .ensures)
+    (ran Plain _ _ _ _ _ _ _ table (omega (arith, read .before .before .before .if2 .left)) arg order known (begun .begin .ensures)
     (granted .grant-all .ensures (known .responses) (known .are)))
     (c .before .before .complete .ensures)
 

@@ -1,5 +1,6 @@
 -- `grant_all` meets its contract, argument by argument.
 use native.Mathlib.Omega.{arith}
+use Rattle.table.specs.declared.Numbering.the-variants.{Plain}
 use Rattle.child.specs.Arguments.{responsesDue}
 use Rattle.child.proofs.ArgumentLaws.{due-many, listed}
 use Rattle.child.proofs.ItemLaws.{all-inherited, all-refused, all-one, all-list}
@@ -43,10 +44,10 @@ grant-items-requires c κs =
     (entry .pre .0 .0, entry .pre .0 .1, listed _ _ _ _ (c .before .before .enum-told4 .given .1) (entry .pre .1 .1) (entry .pre .1 .0))
 
 returns : tie.Need-returns
-returns c known k = all-inherited _ _ _ known (c .before .enum-told .given .1) (c .done .ensures)
+returns c known k = all-inherited Plain _ _ _ known (c .before .enum-told .given .1) (c .done .ensures)
 
 returns-2 : tie.Need-returns-2
-returns-2 c known k = all-refused _ _ _ known (c .before .enum-told2 .given .1) (c .done2 .ensures)
+returns-2 c known k = all-refused Plain _ _ _ known (c .before .enum-told2 .given .1) (c .done2 .ensures)
 
 same-length : tie.Need-same-length
 same-length c = search needs
@@ -58,7 +59,7 @@ returns-3 : tie.Need-returns-3
 unfolding responsesDue
 returns-3 c known k =
     let told = c .before .before .before .before .before .before .before .before .before in
-    all-one _ _ _ _ known (told .enum-told3 .given .1) (rw (due-many _ _ _ _ (told .before .before .before .before .before .before .before .before .pre .1 .1), told .enum-told3 .given .1) (omega arith)) k (c .before .before .before .before .before .response-at .ensures) (c .before .before .before .before .grant-item .ensures)
+    all-one Plain _ _ _ _ known (told .enum-told3 .given .1) (rw (due-many _ _ _ _ (told .before .before .before .before .before .before .before .before .pre .1 .1), told .enum-told3 .given .1) (omega arith)) k (c .before .before .before .before .before .response-at .ensures) (c .before .before .before .before .grant-item .ensures)
 
 same-length-3 : tie.Need-same-length-3
 same-length-3 c = search needs
@@ -67,7 +68,7 @@ same-length-4 : tie.Need-same-length-4
 same-length-4 c = search needs
 
 returns-4 : tie.Need-returns-4
-returns-4 c known k = all-list _ _ _ known (c .before .before .before .before .before .before .before .enum-told4 .given .1) (c .before .before .before .before .grant-items .ensures known k)
+returns-4 c known k = all-list Plain _ _ _ known (c .before .before .before .before .before .before .before .enum-told4 .given .1) (c .before .before .before .before .grant-items .ensures known k)
 
 pub grant-all-spec : {M : Type 1} → statement M
 grant-all-spec =

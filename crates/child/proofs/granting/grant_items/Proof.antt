@@ -3,20 +3,21 @@ use Prim.Native.Nat.{_-_}
 use mathlib.Core.Path.{refl}
 use native.Mathlib.Omega.{arith}
 use lib.ListN.{length}
+use Rattle.table.specs.declared.Numbering.the-variants.{Plain}
 use Rattle.child.proofs.ArgumentLaws.{closing-next}
-use Rattle.child.proofs.ItemLaws.{Going, going-start, going-once, going-parent, going-child, going-stops, going-next, going-done}
+use Rattle.child.proofs.ItemLaws.{Going, going-start, going-once, going-parent, going-child, going-stops, going-next, going-done, plain-past}
 use borrow.Author.Needs.{needs}
 use Rattle.child.proofs.granting.grant_items.Statement.{statement}
 use Rattle.child.proofs.granting.grant_items.Tie as tie
 
 abbrev Inv-loop : tie.InvT-loop
-Inv-loop parent₀ child₀ bytes ends responses cwd asked₀ from₀ i₀ parent child asked from i = Going cwd bytes ends responses parent₀ child₀ parent child asked from i
+Inv-loop parent₀ child₀ bytes ends responses cwd asked₀ from₀ i₀ parent child asked from i = Going Plain Plain cwd bytes ends responses parent₀ child₀ parent child asked from i
 
 abbrev μ-loop : tie.MeasureT-loop
 μ-loop parent₀ child₀ bytes ends responses cwd asked₀ from₀ i₀ parent child asked from i = length ends - i
 
 loop-holds : tie.Need-loop-holds Inv-loop μ-loop
-loop-holds c = going-start _ _ _ _ _ _ (c .before .before .before .before .before .before .pre .0) (c .before .before .before .before .before .before .pre .1) (c .before .before .before .before .before .before .pre .2 .closes)
+loop-holds c = going-start Plain _ _ _ _ _ _ (c .before .before .before .before .before .before .pre .0) (c .before .before .before .before .before .before .pre .1) (c .before .before .before .before .before .before .pre .2 .closes)
 
 mul-end : tie.Need-mul-end Inv-loop μ-loop
 mul-end c = search needs
@@ -92,7 +93,7 @@ loop-again c =
     let granted = c .before .before .before .before .before .before .before in
     let turn = granted .before .before .before .before .before .before in
     let at = turn .before in
-    going-next (at .loop .inv) (turn .loop-test .taken) (omega (arith, at .before .before .before .before .before .before .before .pre .2 .many)) (granted .before .response-at .ensures) refl (granted .grant-item .ensures) (c .enum-told .given .1) refl
+    going-next (at .loop .inv) (turn .loop-test .taken) (omega (arith, at .before .before .before .before .before .before .before .pre .2 .many)) (granted .before .response-at .ensures) refl (granted .grant-item .ensures) (c .enum-told .given .1) refl (plain-past _)
 
 done-requires : tie.Need-done-requires Inv-loop μ-loop
 done-requires c κs = search needs

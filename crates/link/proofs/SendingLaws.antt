@@ -1,0 +1,174 @@
+-- Laws of sending an act: with none nothing is sent, and else its record is the words of the one change; and what is sent by an act that was carried
+-- out.
+use Prim.Native.Nat.{ℕ, suc, _+_, _≤_, _<_}
+use mathlib.Core.Path.{_≡_, refl, sym, ap, _∙_}
+use mathlib.Core.List.{List, [], _∷_, _++_, append-nil, append-assoc}
+use mathlib.Core.Option.{Option, none, some}
+use mathlib.Core.Bool.{Bool, true, false, false≢true}
+use native.Mathlib.Omega.{arith}
+use native.Mathlib.Nat.{zero-add}
+use lib.ListN.{length, length-append, take, take-append-drop}
+use borrow.Author.Tests.{leb-false}
+use Rattle.refusals.specs.declared.Refusal.{Refusal}
+use Rattle.refusals.specs.declared.Refusal.the-variants.{TableFull, NumbersUsedUp}
+use Rattle.refusals.specs.Refusals.{when, firstCause, Result, refused, ok, unless, causeOf}
+use Rattle.paths.specs.Copying.{overwrite, begun}
+use Rattle.table.specs.declared.Numbering.the-variants.{After}
+use Rattle.table.specs.declared.Outcome.{Outcome}
+use Rattle.table.specs.declared.Outcome.the-variants.{Done, Refused}
+use Rattle.table.specs.Tables.{Table}
+use Rattle.table.specs.Acts.{Act, actOverflows}
+use Rattle.table.specs.Memory.{tableOf, doActs}
+use Rattle.table.specs.Carrying.{maxNumber, usedUp, carryCause, actsOf, outcomeOf, fits, CarriesOut}
+use Rattle.table.specs.Calls as table-calls
+use Rattle.table.proofs.Overwrites.{over-above}
+use Rattle.table.proofs.ActLaws.{carried-done, carried-refused}
+use Rattle.walk.specs.declared.PermissionState.{PermissionState}
+use Rattle.walk.specs.declared.Answer.the-variants as answer
+use Rattle.calls.specs.Decisions.{Decision}
+use Rattle.calls.specs.Calls.{carriedOut, answerIn, actsIn}
+use Rattle.records.specs.Records.{changeWords, numbered, allWords}
+use Rattle.records.specs.Answers.{recordWords, Writes}
+use Rattle.records.proofs.RecordLaws.{few-words}
+use Rattle.link.specs.declared.Sent.{Sent}
+use Rattle.link.specs.Sending.{Sends, isNone, Records, SendsAt, SendsAct, refusedSent, Performs}
+use Rattle.link.specs.Linked.{LinkedDoes}
+
+-- ---- acts in turn
+
+pub numbered-append : (n : ℕ) (a b : List Act) → allWords (numbered n (a ++ b)) ≡ allWords (numbered n a) ++ allWords (numbered (n + length a) b)
+unfolding numbered allWords
+numbered-append n [] b = let same : n + 0 ≡ n = omega arith in rw same
+numbered-append n (act ∷ a) b =
+    let same : n + 1 + length a ≡ n + suc (length a) = omega arith in
+    ap (λ (l : List ℕ). changeWords (record { number = n + 1; act = act }) ++ l) (numbered-append (n + 1) a b ∙ ap (λ (k : ℕ). allWords (numbered (n + 1) a) ++ allWords (numbered k b)) same)
+    ∙ sym (append-assoc (changeWords (record { number = n + 1; act = act })) (allWords (numbered (n + 1) a)) (allWords (numbered (n + suc (length a)) b)))
+
+pub records-none : (n : ℕ) (w : List ℕ) (at : ℕ) → Records [] n w at n w at
+unfolding numbered allWords overwrite
+records-none n w at = record { number = omega arith; words = record { words = let same : at + 0 ≡ at = omega arith in rw (append-nil (take at w), same) (sym (take-append-drop at w)); end = omega arith } }
+
+-- the records of further acts stand behind those of the first
+pub records-then : {a b : List Act} {n : ℕ} {w : List ℕ} {at n₁ : ℕ} {w₁ : List ℕ} {mid n₂ : ℕ} {w₂ : List ℕ} {r : ℕ} → mid ≤ length w
+    → Records a n w at n₁ w₁ mid → Records b n₁ w₁ mid n₂ w₂ r → Records (a ++ b) n w at n₂ w₂ r
+records-then {a} {b} {n} {w} {at} h A B =
+    let x = allWords (numbered n a) in
+    let y = allWords (numbered (n + length a) b) in
+    let Z = rw (A .number, A .words .end, A .words .words) at (B .words) in
+    record {
+      number = omega (arith, A .number, B .number, length-append a b);
+      words = rw (numbered-append n a b) (record {
+        words = Z .words ∙ over-above w at x y (omega (arith, A .words .end));
+        end = omega (arith, Z .end, length-append x y);
+      });
+    }
+
+-- ---- one act
+
+pub sends-none : (act : Option Act) (n : ℕ) (w : List ℕ) (at : ℕ) → isNone act ≡ true → SendsAt act n w at n w at
+unfolding isNone actsOf
+sends-none none n w at e = record { records = records-none n w at; few = omega arith }
+sends-none (some act) n w at e = absurd (false≢true e)
+
+pub sends-record : (act : Option Act) (n : ℕ) (w : List ℕ) (at : ℕ) {next : ℕ} {w′ : List ℕ} {k : ℕ} → isNone act ≡ false → fits act ≡ true → next ≡ n + 1
+    → Writes (recordWords next act) w at w′ k → SendsAt act n w at next w′ k
+unfolding isNone fits actsOf numbered allWords recordWords
+sends-record none n w at e a f W = absurd (false≢true (sym e))
+sends-record (some act) n w at e a f W =
+    let words = append-nil (changeWords (record { number = n + 1; act = act })) in
+    let Z = rw f at W in
+    record { records = record { number = f; words = rw words Z }; few = omega (arith, Z .end, few-words (record { number = n + 1; act = act }) a) }
+
+-- from the start
+pub from-start : {s w w′ : List ℕ} {k : ℕ} → Writes s w 0 w′ k → (w′ ≡ begun s w) × (k ≡ length s)
+unfolding begun overwrite
+from-start W = (W .words ∙ rw zero-add, W .end ∙ zero-add _)
+
+pub sends-start : {act : Option Act} {n : ℕ} {w : List ℕ} {n′ : ℕ} {w′ : List ℕ} {k : ℕ} → SendsAt act n w 0 n′ w′ k → SendsAct act n w n′ w′ k
+sends-start S = record { number = S .records .number; words = from-start (S .records .words) .0; count = from-start (S .records .words) .1 }
+
+-- ---- a number is left for what is carried out
+
+pub left-number : (n : ℕ) (t : Table) (act : Option Act) → carryCause (After n) t act ≡ none → isNone act ≡ false → n < maxNumber
+unfolding isNone carryCause
+left-number n t none e f = absurd (false≢true (sym f))
+left-number n t (some act) e f = by (actOverflows t act) (usedUp (After n)) refl e
+  where
+    by : (o u : Bool) → usedUp (After n) ≡ u → firstCause (when o TableFull ∷ when u NumbersUsedUp ∷ []) ≡ none → n < maxNumber
+    by true u g h = unfold firstCause in let z : _≡_ {A = ℕ} 0 1 = cc in absurd (omega arith)
+    by false true g h = unfold firstCause in let z : _≡_ {A = ℕ} 0 1 = cc in absurd (omega arith)
+    by false false g h = unfold usedUp in leb-false _ _ g
+
+-- ---- an act that is carried out, or refused
+
+module _ {act : Option Act} {n : ℕ} {m m′ w : List ℕ} {o : Outcome} (C : CarriesOut (After n) act m m′ o) where
+  pub performs-refused : {cause : Refusal} → o ≡ Refused cause → Performs act m n w m′ n w (refusedSent cause)
+  unfolding actsOf outcomeOf numbered allWords begun
+  performs-refused e = record {
+    outcome = sym e ∙ C .outcome;
+    sends = record {
+      memory = C .memory;
+      number = rw (carried-refused C e) (omega arith);
+      words = rw (carried-refused C e);
+      count = rw (carried-refused C e);
+    };
+  }
+
+  pub performs-done : {n′ : ℕ} {w′ : List ℕ} {k : ℕ} → o ≡ Done → SendsAct act n w n′ w′ k
+      → Performs act m n w m′ n′ w′ (record { outcome = Done; words = k })
+  performs-done e S = record {
+    outcome = sym e ∙ C .outcome;
+    sends = record {
+      memory = C .memory;
+      number = rw (carried-done C e) (S .number);
+      words = rw (carried-done C e) (S .words);
+      count = rw (carried-done C e) (S .count);
+    };
+  }
+
+-- ---- a call that makes one act unless it is refused
+
+pub does-refuse : {call : Result Act} {n : ℕ} {m w : List ℕ} {cause : Refusal} {r : Sent} → call ≡ refused cause → r ≡ refusedSent cause
+    → LinkedDoes call n m w m n w r
+unfolding outcomeOf causeOf table-calls.actsIn doActs numbered allWords begun
+does-refuse e f = rw f (record { outcome = rw e; sends = record { memory = rw e; number = rw e (omega arith); words = rw e; count = rw e } })
+
+pub does-perform : {call : Result Act} {n : ℕ} {m w : List ℕ} {act : Act} {m′ : List ℕ} {n′ : ℕ} {w′ : List ℕ} {r : Sent}
+    → call ≡ table-calls.carried (After n) (tableOf m) act → Performs (some act) m n w m′ n′ w′ r → LinkedDoes call n m w m′ n′ w′ r
+unfolding table-calls.carried
+does-perform {n = n} {m = m} {w = w} {act = act} {m′ = m′} {n′ = n′} {w′ = w′} {r = r} e P =
+    rw e (by (carryCause (After n) (tableOf m) (some act)) (P .outcome) (P .sends))
+  where
+    by : (cause : Option Refusal) → r .outcome ≡ outcomeOf cause → Sends n (actsOf cause (some act)) m w m′ n′ w′ (r .words)
+        → LinkedDoes (unless cause act) n m w m′ n′ w′ r
+    by none f S = unfold unless causeOf table-calls.actsIn actsOf in record { outcome = f; sends = S }
+    by (some cause) f S = unfold unless causeOf table-calls.actsIn actsOf in record { outcome = f; sends = S }
+
+-- ---- a call that decides
+
+pub sends-refused : {c : Result Decision} {n : ℕ} {m w : List ℕ} {cause : Refusal} → c ≡ refused cause → Sends n (actsIn c) m w m n w 0
+unfolding actsIn doActs numbered allWords begun
+sends-refused e = record { memory = rw e; number = rw e (omega arith); words = rw e; count = rw e }
+
+pub sends-decided : {c : Result Decision} {decision : Decision} {n : ℕ} {m w m′ : List ℕ} {n′ : ℕ} {w′ : List ℕ} {k : ℕ} → c ≡ ok decision
+    → m′ ≡ doActs m (actsIn c) → SendsAct (decision .act) n w n′ w′ k → Sends n (actsIn c) m w m′ n′ w′ k
+unfolding actsIn
+sends-decided e q S = record { memory = q; number = rw e (S .number); words = rw e (S .words); count = rw e (S .count) }
+
+pub answer-refused : (c : Result Decision) {cause : Refusal} → answer.Refused cause ≡ answerIn c → c ≡ refused cause
+unfolding answerIn
+answer-refused (refused cause) e = cc
+answer-refused (ok decision) e = let z : _≡_ {A = ℕ} 0 1 = cc in absurd (omega arith)
+
+-- what is carried out is the decision, and had no cause against it
+pub record CarriedOut (n : ℕ) (t : Table) (decision : Decision) : Type 0 where
+  pub is : carriedOut (After n) t decision ≡ ok decision
+  pub free : carryCause (After n) t (decision .act) ≡ none
+
+pub answer-state : (n : ℕ) (t : Table) (decision : Decision) {s : PermissionState} → answer.State s ≡ answerIn (carriedOut (After n) t decision)
+    → CarriedOut n t decision
+answer-state n t decision {s} e = by (carryCause (After n) t (decision .act)) refl (unfold carriedOut in e)
+  where
+    by : (cause : Option Refusal) → carryCause (After n) t (decision .act) ≡ cause → answer.State s ≡ answerIn (unless cause decision) → CarriedOut n t decision
+    by none f g = record { is = unfold carriedOut unless in rw f; free = f }
+    by (some cause) f g = unfold unless answerIn in let z : _≡_ {A = ℕ} 0 1 = cc in absurd (omega arith)

@@ -1,0 +1,151 @@
+-- `ask` meets its contract.
+use mathlib.Core.Path.{refl, sym, _∙_}
+use native.Mathlib.Omega.{arith}
+use borrow.Author.Tests.{not-true, not-false}
+use lib.Seq.{length-take-le}
+use Rattle.calls.proofs.AskLaws.{settled-stands, text-room}
+use Rattle.link.proofs.AskLaws.{
+  ask-no-table,
+  ask-no-space,
+  ask-no-room,
+  ask-unknown,
+  ask-known,
+  asks-refused,
+  settled-stops,
+  ask-sendable,
+  settled-sends,
+}
+use borrow.Author.Needs.{needs}
+use Rattle.link.proofs.asking.ask.Statement.{statement}
+use Rattle.link.proofs.asking.ask.Tie as tie
+
+holds-table-requires : tie.Need-holds-table-requires
+holds-table-requires c κs = search needs
+
+refused-requires : tie.Need-refused-requires
+refused-requires c κs = search needs
+
+same-length : tie.Need-same-length
+same-length c = search needs
+
+returns : tie.Need-returns
+returns c = asks-refused (ask-no-table _ _ _ _ _ _ _ _ _ (sym (c .before .before .holds-table .ensures) ∙ not-true _ (c .before .if1 .taken))) (c .refused .ensures) refl
+
+refused-requires-2 : tie.Need-refused-requires-2
+refused-requires-2 c κs = search needs
+
+same-length-2 : tie.Need-same-length-2
+same-length-2 c = search needs
+
+returns-2 : tie.Need-returns-2
+returns-2 c = asks-refused (ask-no-space _ _ _ _ _ _ _ _ _ (sym (c .before .before .before .holds-table .ensures) ∙ not-false _ (c .before .before .if1 .left)) (omega arith)) (c .refused2 .ensures) refl
+
+refused-requires-3 : tie.Need-refused-requires-3
+refused-requires-3 c κs = search needs
+
+same-length-3 : tie.Need-same-length-3
+same-length-3 c = search needs
+
+returns-3 : tie.Need-returns-3
+returns-3 c = asks-refused (ask-no-room _ _ _ _ _ _ _ _ _ (sym (c .before .before .before .before .holds-table .ensures) ∙ not-false _ (c .before .before .before .if1 .left)) (omega arith) (omega arith)) (c .refused3 .ensures) refl
+
+response-of-requires : tie.Need-response-of-requires
+response-of-requires c κs = search needs
+
+enum-known-known : tie.Need-enum-known-known
+enum-known-known c = search needs
+
+enum-told : tie.Need-enum-told
+enum-told c = search needs
+
+refused-requires-4 : tie.Need-refused-requires-4
+refused-requires-4 c κs = search needs
+
+same-length-4 : tie.Need-same-length-4
+same-length-4 c = search needs
+
+returns-4 : tie.Need-returns-4
+returns-4 c = asks-refused (ask-unknown _ _ _ _ _ _ _ _ _ (sym (c .before .before .before .before .before .before .before .holds-table .ensures) ∙ not-false _ (c .before .before .before .before .before .before .if1 .left)) (omega arith) (omega arith) (sym (c .before .before .before .response-of .ensures) ∙ c .before .enum-told .given .1)) (c .refused4 .ensures) refl
+
+settle-requires : tie.Need-settle-requires
+settle-requires c κs = sym (c .before .before .before .before .before .before .before .before .before .before .holds-table .ensures) ∙ not-false _ (c .before .before .before .before .before .before .before .before .before .if1 .left)
+
+enum-known-cause : tie.Need-enum-known-cause
+enum-known-cause c = search needs
+
+refused-requires-5 : tie.Need-refused-requires-5
+refused-requires-5 c κs = search needs
+
+enum-known-state : tie.Need-enum-known-state
+enum-known-state c = search needs
+
+array-share-prefix-resolved : tie.Need-array-share-prefix-resolved
+array-share-prefix-resolved c = settled-stands (c .before .before .before .before .before .before .before .settle .ensures) (c .before .before .before .state .given .1) .room
+
+slice-aggregate-send : tie.Need-slice-aggregate-send
+slice-aggregate-send c = sym (length-take-le _ _ (array-share-prefix-resolved (c .before)))
+
+send-requires : tie.Need-send-requires
+send-requires c κs = ask-sendable (c .before .before .before .before .before .before .before .before .settle .ensures) (c .before .before .before .before .state .given .1) (sym (c .before .before .before .before .before .before .before .before .before .before .before .before .before .before .before .before .before .before .before .holds-table .ensures) ∙ not-false _ (c .before .before .before .before .before .before .before .before .before .before .before .before .before .before .before .before .before .before .if1 .left)) (omega arith)
+
+finish-requires : tie.Need-finish-requires
+finish-requires c κs = text-room (omega arith) (settled-stands (c .before .before .before .before .before .before .before .before .before .before .before .before .before .settle .ensures) (c .before .before .before .before .before .before .before .before .before .state .given .1))
+
+same-length-5 : tie.Need-same-length-5
+same-length-5 c = search needs
+
+returns-5 : tie.Need-returns-5
+returns-5 c =
+    settled-stops (c .before .before .before .before .before .before .settle .ensures)
+    (ask-known _ _ _ _ _ _ _ _ _ (sym (c .before .before .before .before .before .before .before .before .before .before .before .before .before .before .before .before .before .holds-table .ensures) ∙ not-false _ (c .before .before .before .before .before .before .before .before .before .before .before .before .before .before .before .before .if1 .left)) (omega arith) (omega arith) _ (sym (c .before .before .before .before .before .before .before .before .before .before .before .before .before .response-of .ensures) ∙ c .before .before .before .before .before .before .before .before .before .before .before .known .given .1))
+    (c .before .before .cause .given .1) (c .refused5 .ensures)
+
+same-length-6 : tie.Need-same-length-6
+same-length-6 c = search needs
+
+same-length-7 : tie.Need-same-length-7
+same-length-7 c = search needs
+
+same-length-8 : tie.Need-same-length-8
+same-length-8 c = search needs
+
+returns-6 : tie.Need-returns-6
+returns-6 c =
+    settled-sends (c .before .before .before .before .before .before .before .before .before .before .before .before .before .before .before .before .settle .ensures) (c .before .before .before .before .before .before .before .before .before .before .before .before .state .given .1)
+    (ask-known _ _ _ _ _ _ _ _ _ (sym (c .before .before .before .before .before .before .before .before .before .before .before .before .before .before .before .before .before .before .before .before .before .before .before .before .before .before .before .holds-table .ensures) ∙ not-false _ (c .before .before .before .before .before .before .before .before .before .before .before .before .before .before .before .before .before .before .before .before .before .before .before .before .before .before .if1 .left)) (omega (arith, c .before .before .before .before .before .before .before .before .before .before .before .before .before .before .before .before .before .before .before .before .before .before .before .before .before .if2 .left)) (omega (arith, c .before .before .before .before .before .before .before .before .before .before .before .before .before .before .before .before .before .before .before .before .before .before .before .before .if3 .left)) _ (sym (c .before .before .before .before .before .before .before .before .before .before .before .before .before .before .before .before .before .before .before .before .before .before .before .response-of .ensures) ∙ c .before .before .before .before .before .before .before .before .before .before .before .before .before .before .before .before .before .before .before .before .before .known .given .1))
+    (c .before .before .finish .ensures) (c .before .before .before .before .before .before .before .send .ensures)
+
+pub ask-spec : {M : Type 1} → statement M
+ask-spec =
+    tie.close
+    (tie.spec
+    holds-table-requires
+    refused-requires
+    same-length
+    returns
+    refused-requires-2
+    same-length-2
+    returns-2
+    refused-requires-3
+    same-length-3
+    returns-3
+    response-of-requires
+    enum-known-known
+    enum-told
+    refused-requires-4
+    same-length-4
+    returns-4
+    settle-requires
+    enum-known-cause
+    refused-requires-5
+    enum-known-state
+    array-share-prefix-resolved
+    slice-aggregate-send
+    send-requires
+    finish-requires
+    same-length-5
+    returns-5
+    same-length-6
+    same-length-7
+    same-length-8
+    returns-6)

@@ -1,0 +1,128 @@
+-- `insert` meets its contract.
+use mathlib.Core.Path.{sym, _∙_}
+use native.Mathlib.Omega.{arith}
+use borrow.Author.Tests.{not-true, not-false}
+use lib.Seq.{length-take-le}
+use Rattle.paths.specs.Giving.{queryOf, isQuery}
+use Rattle.paths.proofs.GivingLaws.{gives-refused, gives-stands}
+use Rattle.table.specs.Tables.{isEntry}
+use Rattle.table.specs.Acts.{isAct}
+use Rattle.table.specs.Carrying.{actOf, fits}
+use Rattle.link.proofs.SendingLaws.{does-refuse, does-perform}
+use Rattle.link.proofs.LinkedLaws.{insert-no-table, insert-no-room, insert-unknown, insert-refused, insert-known}
+use borrow.Author.Needs.{needs}
+use Rattle.link.proofs.inserting.insert.Statement.{statement}
+use Rattle.link.proofs.inserting.insert.Tie as tie
+
+holds-table-requires : tie.Need-holds-table-requires
+holds-table-requires c κs = search needs
+
+refused-requires : tie.Need-refused-requires
+refused-requires c κs = search needs
+
+same-length : tie.Need-same-length
+same-length c = search needs
+
+returns : tie.Need-returns
+returns c = does-refuse (insert-no-table _ _ _ _ _ _ (sym (c .before .before .holds-table .ensures) ∙ not-true _ (c .before .if1 .taken))) (c .refused .ensures)
+
+refused-requires-2 : tie.Need-refused-requires-2
+refused-requires-2 c κs = search needs
+
+same-length-2 : tie.Need-same-length-2
+same-length-2 c = search needs
+
+returns-2 : tie.Need-returns-2
+returns-2 c = does-refuse (insert-no-room _ _ _ _ _ _ (sym (c .before .before .before .holds-table .ensures) ∙ not-false _ (c .before .before .if1 .left)) (omega arith)) (c .refused2 .ensures)
+
+kind-of-requires : tie.Need-kind-of-requires
+kind-of-requires c κs = search needs
+
+enum-known-known : tie.Need-enum-known-known
+enum-known-known c = search needs
+
+enum-told : tie.Need-enum-told
+enum-told c = search needs
+
+refused-requires-3 : tie.Need-refused-requires-3
+refused-requires-3 c κs = search needs
+
+same-length-3 : tie.Need-same-length-3
+same-length-3 c = search needs
+
+returns-3 : tie.Need-returns-3
+returns-3 c = does-refuse (insert-unknown _ _ _ _ _ _ (sym (c .before .before .before .before .before .before .holds-table .ensures) ∙ not-false _ (c .before .before .before .before .before .if1 .left)) (omega arith) (sym (c .before .before .before .kind-of .ensures) ∙ c .before .enum-told .given .1)) (c .refused3 .ensures)
+
+resolve-given-requires : tie.Need-resolve-given-requires
+resolve-given-requires c κs = search needs
+
+enum-known-cause : tie.Need-enum-known-cause
+enum-known-cause c = search needs
+
+refused-requires-4 : tie.Need-refused-requires-4
+refused-requires-4 c κs = search needs
+
+enum-known-n : tie.Need-enum-known-n
+enum-known-n c = search needs
+
+array-share-prefix-space : tie.Need-array-share-prefix-space
+array-share-prefix-space c = gives-stands (c .before .before .before .before .before .before .resolve-given .ensures) (c .before .before .before .before .n .given .1) .room
+
+slice-aggregate-perform : tie.Need-slice-aggregate-perform
+slice-aggregate-perform c = sym (length-take-le _ _ (array-share-prefix-space (c .before)))
+
+perform-requires : tie.Need-perform-requires
+unfolding actOf fits isAct isEntry queryOf isQuery
+perform-requires c κs = ((sym (c .before .before .before .before .before .before .before .before .before .before .before .before .before .before .before .holds-table .ensures) ∙ not-false _ (c .before .before .before .before .before .before .before .before .before .before .before .before .before .before .if1 .left)), (gives-stands (c .before .before .before .before .before .before .before .resolve-given .ensures) (c .before .before .before .before .before .n .given .1) .fits, omega arith))
+
+same-length-4 : tie.Need-same-length-4
+same-length-4 c = search needs
+
+returns-4 : tie.Need-returns-4
+returns-4 c =
+    does-refuse
+    (insert-refused _ _ _ _ _ _ (sym (c .before .before .before .before .before .before .before .before .before .before .before .before .holds-table .ensures) ∙ not-false _ (c .before .before .before .before .before .before .before .before .before .before .before .if1 .left)) (omega arith) (sym (c .before .before .before .before .before .before .before .before .before .kind-of .ensures) ∙ c .before .before .before .before .before .before .before .known .given .1)
+    (gives-refused (c .before .before .before .before .resolve-given .ensures) (c .before .before .cause .given .1))) (c .refused4 .ensures)
+
+same-length-5 : tie.Need-same-length-5
+same-length-5 c = search needs
+
+same-length-6 : tie.Need-same-length-6
+same-length-6 c = search needs
+
+returns-5 : tie.Need-returns-5
+unfolding actOf
+returns-5 c =
+    does-perform
+    (insert-known _ _ _ _ _ _ (sym (c .before .before .before .before .before .before .before .before .before .before .before .before .before .before .before .before .before .before .before .before .holds-table .ensures) ∙ not-false _ (c .before .before .before .before .before .before .before .before .before .before .before .before .before .before .before .before .before .before .before .if1 .left)) (omega arith) (sym (c .before .before .before .before .before .before .before .before .before .before .before .before .before .before .before .before .before .kind-of .ensures) ∙ c .before .before .before .before .before .before .before .before .before .before .before .before .before .before .before .known .given .1) _
+    (gives-stands (c .before .before .before .before .before .before .before .before .before .before .before .before .resolve-given .ensures) (c .before .before .before .before .before .before .before .before .before .before .n .given .1) .query)) (c .before .before .before .before .perform .ensures)
+
+pub insert-spec : {M : Type 1} → statement M
+insert-spec =
+    tie.close
+    (tie.spec
+    holds-table-requires
+    refused-requires
+    same-length
+    returns
+    refused-requires-2
+    same-length-2
+    returns-2
+    kind-of-requires
+    enum-known-known
+    enum-told
+    refused-requires-3
+    same-length-3
+    returns-3
+    resolve-given-requires
+    enum-known-cause
+    refused-requires-4
+    enum-known-n
+    array-share-prefix-space
+    slice-aggregate-perform
+    perform-requires
+    same-length-4
+    returns-4
+    same-length-5
+    same-length-6
+    returns-5)

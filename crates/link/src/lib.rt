@@ -1,0 +1,40 @@
+// The main's half of the link: each call that changes a table, with a record of its act under the next number. The definitions are in specs/.
+use calls::Asked;
+use child::ChildMade;
+use table::Outcome;
+use walk::Answer;
+
+pub mod asking;
+pub mod creating;
+pub mod granting;
+pub mod inserting;
+pub mod revoking;
+pub mod sending;
+pub mod switching;
+
+// The words that the records of one item can take: a path of 1,024 bytes, its length and the head.
+pub const RECORD_WORDS: usize = 344;
+
+// What a linked insert or setting of switches answers, and how many words of the record space hold its record.
+pub struct Sent {
+    pub outcome: Outcome,
+    pub words: usize,
+}
+
+// What a linked check or request answers, and its words.
+pub struct AskSent {
+    pub answered: Asked,
+    pub words: usize,
+}
+
+// What a linked revoke answers, and its words.
+pub struct RevokeSent {
+    pub answer: Answer,
+    pub words: usize,
+}
+
+// What a linked child call answers, and its words, which stand there also where it is refused.
+pub struct ChildSent {
+    pub made: ChildMade,
+    pub words: usize,
+}

@@ -4,13 +4,12 @@ use mathlib.Core.Path.{_≡_, refl, _∙_}
 use mathlib.Core.List.{List, [], _∷_, _++_}
 use mathlib.Core.Bool.{Bool, true, false, _&&_, cond}
 use native.Mathlib.Omega.{arith}
-use native.Mathlib.Nat.{zero-add}
 use lib.ListN.{length, getD, length-append}
 use lib.Dec.{eqb}
 use Rattle.paths.specs.Components.{slash}
 use Rattle.paths.specs.Resolving.{isAbsolute}
-use Rattle.paths.specs.Copying.{overwrite, begun}
-use Rattle.table.proofs.Overwrites.{over-above}
+use Rattle.paths.specs.Copying.{begun, Appends}
+use Rattle.table.proofs.Overwrites.{appends-more, from-start}
 use Rattle.paths.specs.declared.Descriptor.{Descriptor}
 use Rattle.paths.specs.declared.Descriptor.the-variants.{NoPath, Path}
 use Rattle.walk.specs.declared.PermissionState.{PermissionState}
@@ -27,7 +26,7 @@ use Rattle.calls.specs.Texts.{
   formatDisplayName,
   textOf,
 }
-use Rattle.calls.specs.Asking.{Appends, Writes, Finishes}
+use Rattle.calls.specs.Asking.{Writes, Finishes}
 
 -- ---- the first byte and the last
 
@@ -80,14 +79,6 @@ angles-none name e = rw e
 
 -- ---- pieces written one behind the other
 
--- s′ written where s ends
-pub appends-more : {s m : List ℕ} {at : ℕ} {m′ : List ℕ} {n : ℕ} {s′ m″ : List ℕ} {n′ : ℕ} → at + length s ≤ length m
-    → Appends s m at m′ n → Appends s′ m′ n m″ n′ → Appends (s ++ s′) m at m″ n′
-appends-more {s} {m} {at} {m′} {n} {s′} h a b = record {
-  end = simp length-append (omega (arith, a .end, b .end));
-  bytes = b .bytes ∙ rw (a .end, a .bytes) (over-above m at s s′ h);
-}
-
 -- a name in angle brackets is written as it is
 pub name-bare : (name : List ℕ) {m : List ℕ} {at : ℕ} {m′ : List ℕ} {r : ℕ} → begins opening name && ends closing name ≡ true
     → Appends name m at m′ r → Appends (formatDisplayName name) m at m′ r
@@ -106,11 +97,7 @@ name-quoted name e h a b c = rw e (appends-more (omega arith) (appends-more (ome
 
 writes : (d : Descriptor) (given resolved : List ℕ) {m m′ : List ℕ} {r : ℕ} → Appends (textOf d given resolved) m 0 m′ r
     → Writes d given resolved m m′ r
-unfolding overwrite begun
-writes d given resolved {m} a = record {
-  size = omega (arith, a .end);
-  bytes = a .bytes ∙ rw zero-add;
-}
+writes d given resolved a = record { size = from-start a .1; bytes = from-start a .0 }
 
 -- with no path
 pub writes-access : (given resolved : List ℕ) {m m′ : List ℕ} {r : ℕ} → Appends readAccess m 0 m′ r

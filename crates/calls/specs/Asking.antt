@@ -1,5 +1,5 @@
 -- What the functions inside the crate ensure, step by step; `Calls.antt` has what they come to.
-use Prim.Native.Nat.{ℕ, _+_, _≤_}
+use Prim.Native.Nat.{ℕ, _≤_}
 use mathlib.Core.Path.{_≡_}
 use mathlib.Core.List.{List, []}
 use mathlib.Core.Bool.{Bool, false, cond}
@@ -8,7 +8,7 @@ use Rattle.refusals.specs.declared.Refusal.{Refusal}
 use Rattle.paths.specs.declared.Descriptor.{Descriptor}
 use Rattle.paths.specs.declared.Descriptor.the-variants.{Path}
 use Rattle.paths.specs.Resolving.{maxPath}
-use Rattle.paths.specs.Copying.{overwrite, begun}
+use Rattle.paths.specs.Copying.{begun}
 use Rattle.paths.specs.Giving.{Query}
 use Rattle.table.specs.declared.Numbering.{Numbering}
 use Rattle.table.specs.Memory.{tableOf, doActs}
@@ -47,11 +47,6 @@ abbrev pub refusedAsk : Refusal → Asked
 refusedAsk cause = record { answer = answer.Refused cause; asked = false; text = 0 }
 
 -- ---- texts
-
--- s is written from `at` on, and r is where it ends
-pub record Appends (s before : List ℕ) (at : ℕ) (after : List ℕ) (r : ℕ) : Type 0 where
-  pub end : r ≡ at + length s
-  pub bytes : after ≡ overwrite before at s
 
 -- the space s is large enough for a text of what is given, whose resolved path is the first n bytes of `resolved`
 pub record HasText (d : Descriptor) (given resolved : List ℕ) (n : ℕ) (s : List ℕ) : Type 0 where

@@ -5,8 +5,9 @@ ghost use mathlib.Core.Path.{_≡_};
 ghost use mathlib.Core.Bool.{_&&_};
 ghost use Prim.Native.Nat.{_+_, _≤_};
 ghost use lib.ListN.{length, take};
+ghost use Rattle.paths.specs.Copying.{Appends};
 ghost use Rattle.calls.specs.Texts.{opening, closing, displayName, begins, ends, formatDisplayName};
-ghost use Rattle.calls.specs.Asking.{Appends, HasText, Writes};
+ghost use Rattle.calls.specs.Asking.{HasText, Writes};
 
 // Whether a path begins with a byte.
 fn begins_with(p: &[u8], b: u8) -> bool

@@ -37,7 +37,7 @@ use Rattle.calls.proofs.ActionLaws.{decided-of}
 use Rattle.calls.proofs.AskLaws.{text-same, settled-refused, settled-told, settled-stands}
 use Rattle.records.specs.Records.{recordSpace}
 use Rattle.link.specs.declared.AskSent.{AskSent}
-use Rattle.link.specs.Sending.{Sendable, SendsAct, refusedAskSent}
+use Rattle.link.specs.Steps.{Sendable, refusedAskSent, SendsAt}
 use Rattle.link.specs.Linked.{linkedAsk, LinkedAsks}
 use Rattle.link.proofs.SendingLaws.{left-number, sends-refused, sends-decided}
 use Rattle.link.proofs.LinkedLaws.{no-room, a-room}
@@ -124,7 +124,7 @@ module _ {call : Call} {n : ℕ} {m : List ℕ} {d : Descriptor} {p cwd : List �
 
     pub settled-sends : {s w : List ℕ} {response : ℕ} {s′ : List ℕ} {a : Asked} {n′ : ℕ} {w′ : List ℕ} {j : ℕ}
         → linkedAsk call n m s w d p cwd response ≡ settled call (After n) (tableOf m) d p cwd known
-        → Finishes state asked writes d p (take k z′) s s′ a → SendsAct (actOf action (take k z′)) n w n′ w′ j
+        → Finishes state asked writes d p (take k z′) s s′ a → SendsAt (actOf action (take k z′)) n w 0 n′ w′ j
         → LinkedAsks call m n s w d p cwd response m′ n′ s′ w′ (record { answered = a; words = j })
     unfolding answerIn askedIn textDue textIn
     settled-sends e F A =

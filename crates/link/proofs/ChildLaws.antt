@@ -23,9 +23,9 @@ use Rattle.child.specs.Steps.{afterItems, Completes}
 use Rattle.child.proofs.CreatingLaws.{Ran, acts-are, creates-by}
 use Rattle.records.specs.Records.{recordSpace, numbered, allWords}
 use Rattle.link.specs.declared.ChildSent.{ChildSent}
-use Rattle.link.specs.Sending.{Records, childRefused}
+use Rattle.link.specs.Steps.{Records, childRefused}
 use Rattle.link.specs.Linked.{atLeastOne, recordRoom, linkedChild, LinkedChild}
-use Rattle.link.proofs.SendingLaws.{from-start}
+use Rattle.table.proofs.Overwrites.{from-start}
 
 -- ---- the record space of k items
 

@@ -32,7 +32,7 @@ use Rattle.calls.specs.Asking.{RevokesQuery}
 use Rattle.calls.proofs.FittingLaws.{revoke-fits}
 use Rattle.records.specs.Records.{recordSpace}
 use Rattle.link.specs.declared.RevokeSent.{RevokeSent}
-use Rattle.link.specs.Sending.{Sendable, SendsAct, refusedRevoke, PerformsRevoke}
+use Rattle.link.specs.Steps.{Sendable, refusedRevoke, PerformsRevoke, SendsAt}
 use Rattle.link.specs.Linked.{atLeastOne, recordRoom, linkedSwitches, linkedInsert, linkedRevoke, LinkedRevokes}
 use Rattle.link.proofs.SendingLaws.{left-number, sends-refused, sends-decided, answer-refused, CarriedOut, answer-state}
 
@@ -159,7 +159,7 @@ module _ (d : Descriptor) (l : List ℕ) {m : List ℕ} {n : ℕ} {m′ : List �
     left = rw f (left-number n (tableOf m) (some (revokeAct (queryOf d l))) (carried-revoke .free));
   }
 
-  pub performs-revoked : {w : List ℕ} {n′ : ℕ} {w′ : List ℕ} {k : ℕ} → SendsAct act n w n′ w′ k
+  pub performs-revoked : {w : List ℕ} {n′ : ℕ} {w′ : List ℕ} {k : ℕ} → SendsAt act n w 0 n′ w′ k
       → PerformsRevoke (queryOf d l) m n w m′ n′ w′ (record { answer = a; words = k })
   unfolding revokeDesc
   performs-revoked S = record {

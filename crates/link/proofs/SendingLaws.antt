@@ -6,13 +6,12 @@ use mathlib.Core.List.{List, [], _∷_, _++_, append-nil, append-assoc}
 use mathlib.Core.Option.{Option, none, some}
 use mathlib.Core.Bool.{Bool, true, false, false≢true}
 use native.Mathlib.Omega.{arith}
-use native.Mathlib.Nat.{zero-add}
-use lib.ListN.{length, length-append, take, take-append-drop}
+use lib.ListN.{length, length-append}
 use borrow.Author.Tests.{leb-false}
 use Rattle.refusals.specs.declared.Refusal.{Refusal}
 use Rattle.refusals.specs.declared.Refusal.the-variants.{TableFull, NumbersUsedUp}
 use Rattle.refusals.specs.Refusals.{when, firstCause, Result, refused, ok, unless, causeOf}
-use Rattle.paths.specs.Copying.{overwrite, begun}
+use Rattle.paths.specs.Copying.{begun, Appends}
 use Rattle.table.specs.declared.Numbering.the-variants.{After}
 use Rattle.table.specs.declared.Outcome.{Outcome}
 use Rattle.table.specs.declared.Outcome.the-variants.{Done, Refused}
@@ -21,17 +20,18 @@ use Rattle.table.specs.Acts.{Act, actOverflows}
 use Rattle.table.specs.Memory.{tableOf, doActs}
 use Rattle.table.specs.Carrying.{maxNumber, usedUp, carryCause, actsOf, outcomeOf, fits, CarriesOut}
 use Rattle.table.specs.Calls as table-calls
-use Rattle.table.proofs.Overwrites.{over-above}
+use Rattle.table.proofs.Overwrites.{appends-none, appends-more, from-start}
 use Rattle.table.proofs.ActLaws.{carried-done, carried-refused}
 use Rattle.walk.specs.declared.PermissionState.{PermissionState}
 use Rattle.walk.specs.declared.Answer.the-variants as answer
 use Rattle.calls.specs.Decisions.{Decision}
 use Rattle.calls.specs.Calls.{carriedOut, answerIn, actsIn}
 use Rattle.records.specs.Records.{changeWords, numbered, allWords}
-use Rattle.records.specs.Answers.{recordWords, Writes}
+use Rattle.records.specs.Answers.{recordWords}
 use Rattle.records.proofs.RecordLaws.{few-words}
 use Rattle.link.specs.declared.Sent.{Sent}
-use Rattle.link.specs.Sending.{Sends, isNone, Records, SendsAt, SendsAct, refusedSent, Performs}
+use Rattle.link.specs.Sending.{Sends}
+use Rattle.link.specs.Steps.{isNone, Records, SendsAt, refusedSent, Performs}
 use Rattle.link.specs.Linked.{LinkedDoes}
 
 -- ---- acts in turn
@@ -45,22 +45,16 @@ numbered-append n (act ∷ a) b =
     ∙ sym (append-assoc (changeWords (record { number = n + 1; act = act })) (allWords (numbered (n + 1) a)) (allWords (numbered (n + suc (length a)) b)))
 
 pub records-none : (n : ℕ) (w : List ℕ) (at : ℕ) → Records [] n w at n w at
-unfolding numbered allWords overwrite
-records-none n w at = record { number = omega arith; words = record { words = let same : at + 0 ≡ at = omega arith in rw (append-nil (take at w), same) (sym (take-append-drop at w)); end = omega arith } }
+unfolding numbered allWords
+records-none n w at = record { number = omega arith; words = appends-none w at }
 
 -- the records of further acts stand behind those of the first
 pub records-then : {a b : List Act} {n : ℕ} {w : List ℕ} {at n₁ : ℕ} {w₁ : List ℕ} {mid n₂ : ℕ} {w₂ : List ℕ} {r : ℕ} → mid ≤ length w
     → Records a n w at n₁ w₁ mid → Records b n₁ w₁ mid n₂ w₂ r → Records (a ++ b) n w at n₂ w₂ r
 records-then {a} {b} {n} {w} {at} h A B =
-    let x = allWords (numbered n a) in
-    let y = allWords (numbered (n + length a) b) in
-    let Z = rw (A .number, A .words .end, A .words .words) at (B .words) in
     record {
       number = omega (arith, A .number, B .number, length-append a b);
-      words = rw (numbered-append n a b) (record {
-        words = Z .words ∙ over-above w at x y (omega (arith, A .words .end));
-        end = omega (arith, Z .end, length-append x y);
-      });
+      words = rw (numbered-append n a b) (appends-more (omega (arith, A .words .end)) (A .words) (rw (A .number) at (B .words)));
     }
 
 -- ---- one act
@@ -71,21 +65,13 @@ sends-none none n w at e = record { records = records-none n w at; few = omega a
 sends-none (some act) n w at e = absurd (false≢true e)
 
 pub sends-record : (act : Option Act) (n : ℕ) (w : List ℕ) (at : ℕ) {next : ℕ} {w′ : List ℕ} {k : ℕ} → isNone act ≡ false → fits act ≡ true → next ≡ n + 1
-    → Writes (recordWords next act) w at w′ k → SendsAt act n w at next w′ k
+    → Appends (recordWords next act) w at w′ k → SendsAt act n w at next w′ k
 unfolding isNone fits actsOf numbered allWords recordWords
 sends-record none n w at e a f W = absurd (false≢true (sym e))
 sends-record (some act) n w at e a f W =
     let words = append-nil (changeWords (record { number = n + 1; act = act })) in
     let Z = rw f at W in
     record { records = record { number = f; words = rw words Z }; few = omega (arith, Z .end, few-words (record { number = n + 1; act = act }) a) }
-
--- from the start
-pub from-start : {s w w′ : List ℕ} {k : ℕ} → Writes s w 0 w′ k → (w′ ≡ begun s w) × (k ≡ length s)
-unfolding begun overwrite
-from-start W = (W .words ∙ rw zero-add, W .end ∙ zero-add _)
-
-pub sends-start : {act : Option Act} {n : ℕ} {w : List ℕ} {n′ : ℕ} {w′ : List ℕ} {k : ℕ} → SendsAt act n w 0 n′ w′ k → SendsAct act n w n′ w′ k
-sends-start S = record { number = S .records .number; words = from-start (S .records .words) .0; count = from-start (S .records .words) .1 }
 
 -- ---- a number is left for what is carried out
 
@@ -114,15 +100,15 @@ module _ {act : Option Act} {n : ℕ} {m m′ w : List ℕ} {o : Outcome} (C : C
     };
   }
 
-  pub performs-done : {n′ : ℕ} {w′ : List ℕ} {k : ℕ} → o ≡ Done → SendsAct act n w n′ w′ k
+  pub performs-done : {n′ : ℕ} {w′ : List ℕ} {k : ℕ} → o ≡ Done → SendsAt act n w 0 n′ w′ k
       → Performs act m n w m′ n′ w′ (record { outcome = Done; words = k })
   performs-done e S = record {
     outcome = sym e ∙ C .outcome;
     sends = record {
       memory = C .memory;
-      number = rw (carried-done C e) (S .number);
-      words = rw (carried-done C e) (S .words);
-      count = rw (carried-done C e) (S .count);
+      number = rw (carried-done C e) (S .records .number);
+      words = rw (carried-done C e) (from-start (S .records .words) .0);
+      count = rw (carried-done C e) (from-start (S .records .words) .1);
     };
   }
 
@@ -151,9 +137,9 @@ unfolding actsIn doActs numbered allWords begun
 sends-refused e = record { memory = rw e; number = rw e (omega arith); words = rw e; count = rw e }
 
 pub sends-decided : {c : Result Decision} {decision : Decision} {n : ℕ} {m w m′ : List ℕ} {n′ : ℕ} {w′ : List ℕ} {k : ℕ} → c ≡ ok decision
-    → m′ ≡ doActs m (actsIn c) → SendsAct (decision .act) n w n′ w′ k → Sends n (actsIn c) m w m′ n′ w′ k
+    → m′ ≡ doActs m (actsIn c) → SendsAt (decision .act) n w 0 n′ w′ k → Sends n (actsIn c) m w m′ n′ w′ k
 unfolding actsIn
-sends-decided e q S = record { memory = q; number = rw e (S .number); words = rw e (S .words); count = rw e (S .count) }
+sends-decided e q S = record { memory = q; number = rw e (S .records .number); words = rw e (from-start (S .records .words) .0); count = rw e (from-start (S .records .words) .1) }
 
 pub answer-refused : (c : Result Decision) {cause : Refusal} → answer.Refused cause ≡ answerIn c → c ≡ refused cause
 unfolding answerIn

@@ -1,7 +1,6 @@
 // The linked calls check and request.
 use crate::AskSent;
-use crate::RECORD_WORDS;
-use crate::sending::send;
+use crate::sending::send_at;
 use calls::Asked;
 use calls::Call;
 use calls::ResponseRead;
@@ -12,12 +11,13 @@ use calls::asking::response_of;
 use calls::asking::settle;
 use paths::Descriptor;
 use paths::MAX_PATH;
+use records::RECORD_WORDS;
 use refusals::Refusal;
 use table::Numbering;
 use table::holding::holds_table;
 use walk::Answer;
 ghost use mathlib.Core.Path.{_≡_};
-ghost use Rattle.link.specs.Sending.{refusedAskSent};
+ghost use Rattle.link.specs.Steps.{refusedAskSent};
 ghost use Rattle.link.specs.Linked.{LinkedAsks};
 
 // A call that is refused.
@@ -74,7 +74,7 @@ pub fn ask<'a>(
     ) {
         Settled::Refused(cause) => refused(cause),
         Settled::Decided(state, asked, writes, n, action) => {
-            let sent = send(number, words, action, &resolved[..n]);
+            let sent = send_at(number, words, 0, action, &resolved[..n]);
             AskSent {
                 answered: finish(state, asked, writes, d, path, &resolved, n, space),
                 words: sent,

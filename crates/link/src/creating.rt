@@ -1,6 +1,5 @@
 // The linked child call.
 use crate::ChildSent;
-use crate::RECORD_WORDS;
 use crate::granting::grant_all;
 use crate::granting::refused;
 use child::ArgRead;
@@ -9,6 +8,7 @@ use child::arguments::are_responses;
 use child::arguments::arg_of;
 use child::creating::complete;
 use child::inheriting::begin;
+use records::RECORD_WORDS;
 use refusals::Refusal;
 use table::TABLE_BYTES;
 use table::holding::holds_table;

@@ -23,7 +23,7 @@ ghost use Rattle.table.specs.Memory.{holds};
 ghost use Rattle.child.specs.Arguments.{listItems, itemsOf, areInOrder};
 ghost use Rattle.child.specs.Steps.{areResponses, Listed};
 ghost use Rattle.records.specs.Records.{recordSpace};
-ghost use Rattle.link.specs.Sending.{childDone, childRefused, SendsItem, SendsItems};
+ghost use Rattle.link.specs.Steps.{childDone, childRefused, SendsItem, SendsItems};
 ghost use Rattle.link.specs.Linked.{atLeastOne};
 
 // A call that is refused, with the words that stand there.

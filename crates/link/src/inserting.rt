@@ -1,5 +1,4 @@
 // The linked insert.
-use crate::RECORD_WORDS;
 use crate::Sent;
 use crate::sending::perform;
 use crate::switching::refused;
@@ -7,6 +6,7 @@ use paths::Descriptor;
 use paths::MAX_PATH;
 use paths::Resolution;
 use paths::giving::resolve_given;
+use records::RECORD_WORDS;
 use refusals::Refusal;
 use table::Action;
 use table::KindRead;

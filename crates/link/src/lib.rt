@@ -12,9 +12,6 @@ pub mod revoking;
 pub mod sending;
 pub mod switching;
 
-// The words that the records of one item can take: a path of 1,024 bytes, its length and the head.
-pub const RECORD_WORDS: usize = 344;
-
 // What a linked insert or setting of switches answers, and how many words of the record space hold its record.
 pub struct Sent {
     pub outcome: Outcome,

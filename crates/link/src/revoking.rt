@@ -1,13 +1,13 @@
 // The linked revoke.
-use crate::RECORD_WORDS;
 use crate::RevokeSent;
-use crate::sending::send;
+use crate::sending::send_at;
 use calls::revoking::revoke_action;
 use calls::revoking::revoke_query;
 use paths::Descriptor;
 use paths::MAX_PATH;
 use paths::Resolution;
 use paths::giving::resolve_given;
+use records::RECORD_WORDS;
 use refusals::Refusal;
 use table::Numbering;
 use table::holding::holds_table;
@@ -19,7 +19,7 @@ ghost use lib.ListN.{length};
 ghost use Rattle.paths.specs.Giving.{isQuery, queryOf};
 ghost use Rattle.table.specs.Memory.{holds};
 ghost use Rattle.records.specs.Records.{recordSpace};
-ghost use Rattle.link.specs.Sending.{refusedRevoke, PerformsRevoke};
+ghost use Rattle.link.specs.Steps.{refusedRevoke, PerformsRevoke};
 ghost use Rattle.link.specs.Linked.{LinkedRevokes};
 
 // A call that is refused.
@@ -50,7 +50,7 @@ fn revoke_resolved(
         Answer::Refused(cause) => refused(cause),
         Answer::State(_) => RevokeSent {
             answer,
-            words: send(number, words, revoke_action(d), q),
+            words: send_at(number, words, 0, revoke_action(d), q),
         },
     }
 }

@@ -13,7 +13,7 @@ ghost use lib.ListN.{length};
 ghost use Rattle.table.specs.Memory.{holds};
 ghost use Rattle.table.specs.Carrying.{actOf, fits};
 ghost use Rattle.records.specs.Records.{recordSpace};
-ghost use Rattle.link.specs.Sending.{isNone, Sendable, SendsAt, SendsAct, Performs};
+ghost use Rattle.link.specs.Steps.{isNone, Sendable, SendsAt, Performs};
 
 // Whether there is no act.
 fn is_nothing(action: Action) -> bool
@@ -48,14 +48,6 @@ pub(crate) fn send_at(
     write_record(words, at, next, action, q)
 }
 
-// The same from the record space's start.
-pub fn send(number: &mut u64, words: &mut [u32], action: Action, q: &[u8]) -> usize
-    requires { ⌜ Sendable (now number) (actOf action (now q)) (now words) 0 ⌝ }
-    ensures { λ r. ⌜ SendsAct (actOf action (now (q .entry))) (now (number .entry)) (now (words .entry)) (now (number .exit)) (now (words .exit)) r ⌝ }
-{
-    send_at(number, words, 0, action, q)
-}
-
 // Carries an act out and writes its record, or is refused by 8 or 9.
 pub(crate) fn perform(
     mem: &mut [u8],
@@ -76,7 +68,7 @@ pub(crate) fn perform(
         },
         Outcome::Done => Sent {
             outcome: Outcome::Done,
-            words: send(number, words, action, q),
+            words: send_at(number, words, 0, action, q),
         },
     }
 }

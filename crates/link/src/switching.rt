@@ -1,14 +1,14 @@
 // The linked call that sets the switches.
-use crate::RECORD_WORDS;
 use crate::Sent;
 use crate::sending::perform;
+use records::RECORD_WORDS;
 use refusals::Refusal;
 use table::Action;
 use table::MAX_SWITCHES;
 use table::Outcome;
 use table::holding::holds_table;
 ghost use mathlib.Core.Path.{_≡_};
-ghost use Rattle.link.specs.Sending.{refusedSent};
+ghost use Rattle.link.specs.Steps.{refusedSent};
 ghost use Rattle.link.specs.Linked.{LinkedSwitches};
 
 // A call that is refused.

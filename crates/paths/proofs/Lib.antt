@@ -7,3 +7,4 @@ pub mod Scanning
 pub mod Entering
 pub mod Answering
 pub mod GivingLaws
+pub mod ByteLaws

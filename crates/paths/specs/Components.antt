@@ -1,9 +1,14 @@
 -- A path is a list of bytes, and slashes part it into components. Document 01, "Paths, at the bottom".
 -- Any byte but the slash may stand in a component.
-use Prim.Native.Nat.{ℕ}
+use Prim.Native.Nat.{ℕ, _<_}
 use mathlib.Core.List.{List, [], _∷_, _++_}
 use mathlib.Core.Bool.{Bool, true, false, _&&_}
+use lib.ListN.{getD}
 use lib.Dec.{eqb}
+
+-- every element is a byte
+pub record Bytes (p : List ℕ) : Type 0 where
+  pub each : (k : ℕ) → getD p k 0 < 256
 
 abbrev pub slash : ℕ
 slash = 47

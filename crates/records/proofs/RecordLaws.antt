@@ -8,9 +8,10 @@ use native.Mathlib.Omega.{arith}
 use lib.ListN.{length, getD}
 use lib.Dec.{leb}
 use borrow.Author.Tests.{eq-eqb, le-leb, leb-true}
-use Rattle.paths.specs.Components.{same, pieces, spell}
+use Rattle.paths.specs.Components.{Bytes, same, pieces, spell}
 use Rattle.paths.specs.Resolving.{maxPath, isResolved, normalize, enterAll, entered}
 use Rattle.paths.specs.Giving.{isPath}
+use Rattle.paths.proofs.ByteLaws.{bytes-head, bytes-tail}
 use Rattle.paths.proofs.ComponentLaws.{and-left, and-right}
 use Rattle.table.specs.declared.Kind.{Kind}
 use Rattle.table.specs.declared.Kind.the-variants.{G, D, P, I}
@@ -34,7 +35,6 @@ use Rattle.records.specs.Records.{
   changeWords,
   numbered,
   allWords,
-  Bytes,
   actPath,
   Readable,
   kindOfWord,
@@ -62,24 +62,6 @@ use Rattle.records.specs.Records.{
   readChange,
 }
 use Rattle.records.specs.Steps.{wordsFor}
-
--- ---- bytes
-
-pub bytes-none : Bytes []
-bytes-none = record { each = λ k. omega arith }
-
-pub bytes-cons : {a : ℕ} {p : List ℕ} → a < 256 → Bytes p → Bytes (a ∷ p)
-bytes-cons {a} {p} h B = record { each = λ k. go k }
-  where
-    go : (k : ℕ) → getD (a ∷ p) k 0 < 256
-    go zero = h
-    go (suc k) = B .each k
-
-pub bytes-head : {a : ℕ} {p : List ℕ} → Bytes (a ∷ p) → a < 256
-bytes-head B = B .each 0
-
-pub bytes-tail : {a : ℕ} {p : List ℕ} → Bytes (a ∷ p) → Bytes p
-bytes-tail B = record { each = λ k. B .each (suc k) }
 
 -- ---- path words read back
 

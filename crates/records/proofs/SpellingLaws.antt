@@ -9,16 +9,13 @@ use native.Mathlib.Omega.{arith}
 use native.Mathlib.Numerals.{add-one, unary-clauses}
 use lib.ListN.{length, getD, take, drop, set, take-append-drop, length-append, length-drop}
 use lib.Seq.{paste, take-suc, take-at, take-all, length-take-le, getD-take, getD-drop}
-use Rattle.paths.specs.Components.{same}
+use Rattle.paths.specs.Components.{Bytes, same}
 use Rattle.paths.proofs.ComponentLaws.{same-refl, same-eq}
+use Rattle.paths.proofs.ByteLaws.{bytes-none, bytes-cons, bytes-head, bytes-tail, bytes-take}
 use Rattle.paths.proofs.CopyLaws.{paste-more}
-use Rattle.records.specs.Records.{Bytes, Read, first, second, third, pathWord, pathWords, bytesFrom}
+use Rattle.records.specs.Records.{Read, first, second, third, pathWord, pathWords, bytesFrom}
 use Rattle.records.specs.Steps.{wordsFor, wordBytes}
 use Rattle.records.proofs.RecordLaws.{
-  bytes-none,
-  bytes-cons,
-  bytes-head,
-  bytes-tail,
   word-first,
   word-second,
   word-third,
@@ -96,11 +93,6 @@ spelled-bytes [] = bytes-none
 spelled-bytes (w ∷ ws) =
     bytes-cons {a = first w} (omega arith)
     (bytes-cons {a = second w} (omega arith) (bytes-cons {a = third w} (omega arith) (spelled-bytes ws)))
-
-bytes-take : (n : ℕ) (p : List ℕ) → Bytes p → Bytes (take n p)
-bytes-take zero p B = bytes-none
-bytes-take (suc n) [] B = bytes-none
-bytes-take (suc n) (a ∷ p) B = bytes-cons (bytes-head B) (bytes-take n p (bytes-tail B))
 
 -- the bytes of a path's words are the path, and zeros
 bytes-back : (p : List ℕ) → Bytes p → take (length p) (wordBytes (pathWords p)) ≡ p

@@ -1,12 +1,11 @@
 -- Laws of writing a record: stores that are one run of words, and the words of each action.
 use Prim.Native.Nat.{ℕ, _+_, _≤_}
-use mathlib.Core.Path.{_≡_, sym, subst}
-use mathlib.Core.List.{List, [], _∷_, append-nil}
+use mathlib.Core.Path.{_≡_}
+use mathlib.Core.List.{List, [], _∷_}
 use mathlib.Core.Bool.{true}
-use native.Mathlib.Nat.{add-zero}
 use native.Mathlib.Omega.{arith}
 use native.Mathlib.Numerals.{towards-suc}
-use lib.ListN.{length, take, set, take-append-drop}
+use lib.ListN.{length, set}
 use Rattle.paths.specs.Copying.{overwrite}
 use Rattle.paths.specs.Resolving.{maxPath}
 use Rattle.table.specs.declared.Kind.{Kind}
@@ -17,7 +16,7 @@ use Rattle.table.specs.Acts.{isAct}
 use Rattle.table.specs.Carrying.{actOf, fits}
 use Rattle.table.proofs.Overwrites.{over-sets, over-above}
 use Rattle.records.specs.Records.{switchesKind, wordOf, insertNumber, actNumber, headWord, pathPart, actPart, changeWords}
-use Rattle.records.specs.Answers.{recordWords, Writes}
+use Rattle.records.specs.Answers.{recordWords}
 use Rattle.records.proofs.RecordLaws.{path-short}
 
 -- two words stored one by one, and the same with more words behind them
@@ -29,13 +28,6 @@ pub two-before : (m : List ℕ) (at a b : ℕ) (s : List ℕ) → at + 2 ≤ len
 two-before m at a b s h = rw (two-stores m at a b h) (over-above m at (a ∷ b ∷ []) s h)
 
 -- ---- the words of each action
-
-pub writes-none : (w : List ℕ) (at : ℕ) → Writes [] w at w at
-unfolding overwrite
-writes-none w at = record { words = sym (rw (append-nil (take at w), add-zero at) (take-append-drop at w)); end = omega arith }
-
-pub writes-as : {s s′ w w′ : List ℕ} {at r : ℕ} → s ≡ s′ → Writes s w at w′ r → Writes s′ w at w′ r
-writes-as {w = w} {w′ = w′} {at = at} {r = r} e W = subst (λ (x : List ℕ). Writes x w at w′ r) e W
 
 module _ {action : Action} (number : ℕ) (q : List ℕ) where
   pub no-words : action ≡ Nothing → [] ≡ recordWords number (actOf action q)

@@ -9,8 +9,10 @@ use lib.ListN.{length, drop, length-append}
 use lib.Seq.{drop-append-seam, drop-drop}
 use lib.Dec.{leb, eqb}
 use borrow.Author.Tests.{eqb-true}
+use Rattle.paths.specs.Components.{Bytes}
 use Rattle.paths.specs.Resolving.{maxPath, isResolved}
 use Rattle.paths.specs.Giving.{isPath}
+use Rattle.paths.proofs.ByteLaws.{bytes-none, bytes-cons}
 use Rattle.paths.proofs.ComponentLaws.{and-left, and-right}
 use Rattle.table.specs.declared.Kind.{Kind}
 use Rattle.table.specs.declared.Kind.the-variants.{G, D, P, I}
@@ -29,7 +31,6 @@ use Rattle.records.specs.Records.{
   pathPart,
   actPart,
   changeWords,
-  Bytes,
   actPath,
   Readable,
   kindOfWord,
@@ -57,7 +58,6 @@ use Rattle.records.specs.Records.{
   ended,
   readChange,
 }
-use Rattle.records.proofs.RecordLaws.{bytes-none, bytes-cons}
 
 -- ---- what was read, if something was
 

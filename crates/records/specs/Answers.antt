@@ -4,7 +4,7 @@ use mathlib.Core.Path.{_≡_}
 use mathlib.Core.List.{List, []}
 use mathlib.Core.Option.{Option, none, some}
 use lib.ListN.{length}
-use Rattle.paths.specs.Copying.{overwrite, begun}
+use Rattle.paths.specs.Copying.{begun}
 use Rattle.table.specs.Acts.{Act}
 use Rattle.table.specs.Carrying.{actionOf}
 use Rattle.records.specs.declared.Record.{Record}
@@ -17,11 +17,6 @@ use Rattle.records.specs.Records.{Change, Read, actPath, changeWords}
 unfoldable pub recordWords : ℕ → Option Act → List ℕ
 recordWords number none = []
 recordWords number (some act) = changeWords (record { number = number; act = act })
-
--- w becomes w′ by the words s from `at` on, which end at r
-pub record Writes (s w : List ℕ) (at : ℕ) (w′ : List ℕ) (r : ℕ) : Type 0 where
-  pub words : w′ ≡ overwrite w at s
-  pub end : r ≡ at + length s
 
 -- ---- reading
 

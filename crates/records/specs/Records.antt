@@ -1,11 +1,12 @@
 -- Records: an act on the main's table with its number, as 32-bit words, and back. Document 01, "Handover, at the top".
-use Prim.Native.Nat.{ℕ, zero, suc, _+_, _*_, _/_, _%_, _≤_, _<_}
+use Prim.Native.Nat.{ℕ, zero, suc, _+_, _*_, _/_, _%_, _≤_}
 use mathlib.Core.Path.{_≡_}
 use mathlib.Core.List.{List, [], _∷_, _++_}
 use mathlib.Core.Option.{Option, none, some}
 use mathlib.Core.Bool.{Bool, true, false, _&&_, cond}
-use lib.ListN.{length, getD}
+use lib.ListN.{length}
 use lib.Dec.{leb, eqb}
+use Rattle.paths.specs.Components.{Bytes}
 use Rattle.paths.specs.Resolving.{maxPath, isResolved}
 use Rattle.table.specs.declared.Kind.{Kind}
 use Rattle.table.specs.declared.Kind.the-variants.{G, D, P, I}
@@ -101,10 +102,6 @@ allWords [] = []
 allWords (c ∷ changes) = changeWords c ++ allWords changes
 
 -- ---- what can be recorded
-
--- every element is a byte
-pub record Bytes (p : List ℕ) : Type 0 where
-  pub each : (k : ℕ) → getD p k 0 < 256
 
 -- an act's path, if it has one
 unfoldable pub actPath : Act → List ℕ

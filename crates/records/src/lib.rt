@@ -18,8 +18,8 @@ const KIND_UNIT: u32 = 0x1000_0000;
 // In a head four act bits stand next, and the change number below them.
 const ACT_UNIT: u32 = 0x100_0000;
 
-// All five switches.
-const MAX_SWITCHES: u32 = 31;
+// The words that the longest record takes: a path of 1,024 bytes, its length and the head.
+pub const RECORD_WORDS: usize = 344;
 
 // Room for the bytes of as many words as the longest path takes.
 const PATH_ROOM: usize = 1026;

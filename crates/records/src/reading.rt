@@ -2,7 +2,6 @@
 use crate::ACT_UNIT;
 use crate::KIND_UNIT;
 use crate::LENGTH;
-use crate::MAX_SWITCHES;
 use crate::PATH_ROOM;
 use crate::PathRead;
 use crate::Record;
@@ -14,6 +13,7 @@ use paths::copying::copy_in;
 use paths::resolving::is_resolved;
 use table::Action;
 use table::Kind;
+use table::MAX_SWITCHES;
 ghost use mathlib.Core.Path.{_≡_};
 ghost use mathlib.Core.List.{List};
 ghost use mathlib.Core.Option.{some};
@@ -157,7 +157,7 @@ fn read_with_switches(words: &[u32], from: usize, number: u64) -> Record
         return Record::Malformed;
     }
     let switches = word % KIND_UNIT;
-    if switches > MAX_SWITCHES {
+    if switches > MAX_SWITCHES as u32 {
         return Record::Malformed;
     }
     Record::Change(number, Action::SetSwitches(switches as u8), 0, from + 2)

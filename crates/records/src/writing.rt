@@ -12,10 +12,11 @@ ghost use mathlib.Core.List.{[], _∷_};
 ghost use mathlib.Core.Bool.{true};
 ghost use Prim.Native.Nat.{_+_, _<_, _≤_};
 ghost use lib.ListN.{length, getD};
+ghost use Rattle.paths.specs.Copying.{Appends};
 ghost use Rattle.paths.specs.Resolving.{maxPath};
 ghost use Rattle.table.specs.Carrying.{maxNumber, actOf, fits};
 ghost use Rattle.records.specs.Records.{recordSpace, switchesKind, kindUnit, wordOf, insertNumber, headWord, pathWords, pathPart};
-ghost use Rattle.records.specs.Answers.{recordWords, Writes};
+ghost use Rattle.records.specs.Answers.{recordWords};
 ghost use Rattle.records.specs.Steps.{wordsFor};
 
 // The act numbers of the other acts than inserts.
@@ -66,7 +67,7 @@ pub(crate) fn path_word(p: &[u8], k: usize) -> u32
 // Writes a path's words, and says where they end.
 fn write_path_words(words: &mut [u32], at: usize, p: &[u8]) -> usize
     requires { ⌜ (length (now p) ≤ maxPath) × (at + wordsFor (length (now p)) ≤ length (now words)) ⌝ }
-    ensures { λ r. ⌜ Writes (pathWords (now (p .entry))) (now (words .entry)) at (now (words .exit)) r ⌝ }
+    ensures { λ r. ⌜ Appends (pathWords (now (p .entry))) (now (words .entry)) at (now (words .exit)) r ⌝ }
 {
     let count = words_for(p.len());
     let mut k: usize = 0;
@@ -80,7 +81,7 @@ fn write_path_words(words: &mut [u32], at: usize, p: &[u8]) -> usize
 // Writes a head, and a path's length and words behind it.
 fn write_with_path(words: &mut [u32], at: usize, head: u32, p: &[u8]) -> usize
     requires { ⌜ (length (now p) ≤ maxPath) × (at + recordSpace ≤ length (now words)) ⌝ }
-    ensures { λ r. ⌜ Writes (head ∷ pathPart (now (p .entry))) (now (words .entry)) at (now (words .exit)) r ⌝ }
+    ensures { λ r. ⌜ Appends (head ∷ pathPart (now (p .entry))) (now (words .entry)) at (now (words .exit)) r ⌝ }
 {
     words[at] = head;
     words[at + 1] = word_of(LENGTH, p.len() as u32);
@@ -90,7 +91,7 @@ fn write_with_path(words: &mut [u32], at: usize, head: u32, p: &[u8]) -> usize
 // Writes a head, and switches behind it.
 fn write_with_switches(words: &mut [u32], at: usize, head: u32, switches: u8) -> usize
     requires { ⌜ at + recordSpace ≤ length (now words) ⌝ }
-    ensures { λ r. ⌜ Writes (head ∷ wordOf switchesKind switches ∷ []) (now (words .entry)) at (now (words .exit)) r ⌝ }
+    ensures { λ r. ⌜ Appends (head ∷ wordOf switchesKind switches ∷ []) (now (words .entry)) at (now (words .exit)) r ⌝ }
 {
     words[at] = head;
     words[at + 1] = word_of(SWITCHES, switches as u32);
@@ -100,7 +101,7 @@ fn write_with_switches(words: &mut [u32], at: usize, head: u32, switches: u8) ->
 // Writes a head with nothing behind it.
 fn write_alone(words: &mut [u32], at: usize, head: u32) -> usize
     requires { ⌜ at + recordSpace ≤ length (now words) ⌝ }
-    ensures { λ r. ⌜ Writes (head ∷ []) (now (words .entry)) at (now (words .exit)) r ⌝ }
+    ensures { λ r. ⌜ Appends (head ∷ []) (now (words .entry)) at (now (words .exit)) r ⌝ }
 {
     words[at] = head;
     at + 1
@@ -130,7 +131,7 @@ fn head_word(act: u32, number: u64) -> u32
 pub fn write_record(words: &mut [u32], at: usize, number: u64, action: Action, q: &[u8]) -> usize
     requires { ⌜ (at + recordSpace ≤ length (now words)) × (number ≤ maxNumber) ⌝ }
     requires { ⌜ fits (actOf action (now q)) ≡ true ⌝ }
-    ensures { λ r. ⌜ Writes (recordWords number (actOf action (now (q .entry)))) (now (words .entry)) at (now (words .exit)) r ⌝ }
+    ensures { λ r. ⌜ Appends (recordWords number (actOf action (now (q .entry)))) (now (words .entry)) at (now (words .exit)) r ⌝ }
 {
     match action {
         Action::Nothing => at,

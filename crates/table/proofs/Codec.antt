@@ -10,6 +10,7 @@ use lib.ListN.{length, getD, take, drop, take-append-drop, length-append}
 use lib.Seq.{drop-cons, drop-drop, take-at, drop-at}
 use lib.Arith.{digits-div, digits-mod}
 use Rattle.table.specs.Entries.{Entry}
+use Rattle.paths.specs.Components.{Bytes}
 use Rattle.table.specs.Tables.{Table, pathBytes}
 use Rattle.table.specs.Memory.{
   wordAt,
@@ -27,10 +28,6 @@ use Rattle.table.specs.Memory.{
 }
 use Rattle.table.specs.Reading.{Rest}
 use Rattle.table.proofs.Within.{held, Here, rest-start, here-suc, rest-suc, rest-take, rest-drop, length-path, length-entries, number-kind}
-
--- every element is a byte
-abbrev pub Bytes : List ℕ → Type 0
-Bytes m = (i : ℕ) → getD m i 0 < 256
 
 -- ---- encodings
 
@@ -91,7 +88,7 @@ pub entries-law : (m : List ℕ) (n at : ℕ) → Bytes m → Rest m n at
 unfolding encodeAll entriesAt offsetAt
 entries-law m zero at b r = refl
 entries-law m (suc n) at b r =
-    entry-law m at (b (at + 1 + 1)) (here-suc r)
+    entry-law m at (b .each (at + 1 + 1)) (here-suc r)
     ∙ ap (λ (l : List ℕ). encodeEntry (entryAt m at) ++ l) (entries-law m n (nextAt m at) b (rest-suc r))
     ∙ sym (append-assoc (encodeEntry (entryAt m at)) (encodeAll (entriesAt m n (nextAt m at))) (drop (offsetAt m n (nextAt m at)) m))
 

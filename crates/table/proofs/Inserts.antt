@@ -5,6 +5,7 @@ use mathlib.Core.List.{List, _∷_, _++_}
 use mathlib.Core.Bool.{true}
 use native.Mathlib.Omega.{arith}
 use lib.ListN.{length, getD, set, take, drop}
+use Rattle.paths.specs.Components.{Bytes}
 use Rattle.paths.specs.Copying.{overwrite}
 use Rattle.table.specs.Entries.{Entry}
 use Rattle.table.specs.declared.Place.the-variants.{Found, At}
@@ -26,7 +27,6 @@ use Rattle.table.specs.Memory.{
 }
 use Rattle.table.proofs.Within.{held, rest-start, rest-take, rest-drop, length-entries}
 use Rattle.table.proofs.Codec.{
-  Bytes,
   length-encodeEntry,
   length-encodeAll,
   encodeAll-append,

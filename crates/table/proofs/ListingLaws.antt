@@ -6,13 +6,14 @@ use mathlib.Core.Bool.{true}
 use native.Mathlib.Omega.{arith}
 use lib.ListN.{length, take, drop, getD}
 use borrow.Author.Tests.{lt-ltb, le-ltb}
+use Rattle.paths.specs.Components.{Bytes}
 use Rattle.table.specs.declared.Listed.the-variants as listed-as
 use Rattle.table.specs.Entries.{Entry}
 use Rattle.table.specs.Tables.{maxEntries}
 use Rattle.table.specs.Memory.{tableBytes, wordAt, nextAt, offsetAt, tableOf, holds, encode, put}
 use Rattle.table.specs.Listing.{usedBytes, listedAt, listed}
 use Rattle.table.proofs.Within.{held, rest-start, rest-drop, rest-here, length-path}
-use Rattle.table.proofs.Codec.{Bytes, entry-nth}
+use Rattle.table.proofs.Codec.{entry-nth}
 use Rattle.table.proofs.Puts.{count-of, valid-of, encode-front, length-encoded, encode-fits, tableOf-put}
 
 -- ---- what a table takes

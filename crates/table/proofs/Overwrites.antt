@@ -1,13 +1,13 @@
--- Laws of `overwrite`: what lies around it, two that touch, and stores that are one.
+-- Laws of `overwrite`: what lies around it, two that touch, stores that are one, and runs behind each other.
 use Prim.Native.Nat.{ℕ, _+_, _/_, _%_, _≤_}
-use mathlib.Core.Path.{_≡_, sym, ap, _∙_}
-use mathlib.Core.List.{List, [], _∷_, _++_, append-assoc}
+use mathlib.Core.Path.{_≡_, sym, ap, subst, _∙_}
+use mathlib.Core.List.{List, [], _∷_, _++_, append-nil, append-assoc}
 use native.Mathlib.Omega.{arith}
-use native.Mathlib.Nat.{add-assoc}
+use native.Mathlib.Nat.{add-zero, zero-add, add-assoc}
 use native.Mathlib.Numerals.{towards-suc}
-use lib.ListN.{length, take, drop, set, length-append}
+use lib.ListN.{length, take, drop, set, take-append-drop, length-append}
 use lib.Seq.{sets, sets-eq, drop-at, take-append-le, drop-append-add, take-take, drop-drop, length-take-le}
-use Rattle.paths.specs.Copying.{overwrite}
+use Rattle.paths.specs.Copying.{overwrite, begun, Appends}
 use Rattle.paths.proofs.CopyLaws.{length-front, take-over}
 use Rattle.table.specs.Entries.{Entry, kindNumber}
 use Rattle.table.specs.Memory.{encodeEntry}
@@ -88,3 +88,25 @@ headed m h₀ h₁ h₂ h₃ l s at a b f i =
     simp length-append (omega (arith, sym (length-take-le at m i) ∙ ap length f))
     in
     rw (f, size)
+
+-- ---- runs, one behind the other
+
+pub appends-none : (m : List ℕ) (at : ℕ) → Appends [] m at m at
+unfolding overwrite
+appends-none m at = record { content = sym (rw (append-nil (take at m), add-zero at) (take-append-drop at m)); end = omega arith }
+
+pub appends-as : {s s′ m m′ : List ℕ} {at r : ℕ} → s ≡ s′ → Appends s m at m′ r → Appends s′ m at m′ r
+appends-as {m = m} {m′ = m′} {at = at} {r = r} e A = subst (λ (x : List ℕ). Appends x m at m′ r) e A
+
+-- s′ written where s ends
+pub appends-more : {s m : List ℕ} {at : ℕ} {m′ : List ℕ} {n : ℕ} {s′ m″ : List ℕ} {n′ : ℕ} → at + length s ≤ length m
+    → Appends s m at m′ n → Appends s′ m′ n m″ n′ → Appends (s ++ s′) m at m″ n′
+appends-more {s} {m} {at} {m′} {n} {s′} h a b = record {
+  content = b .content ∙ rw (a .end, a .content) (over-above m at s s′ h);
+  end = simp length-append (omega (arith, a .end, b .end));
+}
+
+-- from the start
+pub from-start : {s m m′ : List ℕ} {r : ℕ} → Appends s m 0 m′ r → (m′ ≡ begun s m) × (r ≡ length s)
+unfolding begun overwrite
+from-start A = (A .content ∙ rw zero-add, A .end ∙ zero-add _)

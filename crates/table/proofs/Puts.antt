@@ -19,8 +19,9 @@ use Rattle.table.specs.Acts.{insertedBy, adds, hasRoom}
 use Rattle.table.specs.Memory.{tableBytes, wordAt, entriesAt, offsetAt, tableOf, areWithin, holds, encode, put}
 use Rattle.table.proofs.TableLaws.{valid-parts, parts-valid, length-more, path-more, every-more, marks-more, marks-present}
 use Rattle.table.proofs.Within.{held, rest-start, length-entries}
-use Rattle.table.proofs.Codec.{Bytes, head-of, length-encode, entries-size, front}
+use Rattle.table.proofs.Codec.{head-of, length-encode, entries-size, front}
 use Rattle.table.proofs.Readback.{entries-read, entries-within}
+use Rattle.paths.specs.Components.{Bytes}
 use Rattle.paths.proofs.ComponentLaws.{and-left, and-right}
 
 -- ---- memory that holds a table
@@ -43,7 +44,7 @@ module _ (m : List ℕ) (bytes : Bytes m) (h : holds m ≡ true) where
   unfolding tableOf
   encode-front =
       head-of (tableOf m) (wordAt m 0) _ _ _ (length-entries m (wordAt m 0) 4) refl refl refl
-      ∙ rw (digits-div (getD m 0 0) (bytes 1), digits-mod (getD m 0 0) (bytes 1)) (sym (front m bytes h (wordAt m 0) (omega arith)))
+      ∙ rw (digits-div (getD m 0 0) (bytes .each 1), digits-mod (getD m 0 0) (bytes .each 1)) (sym (front m bytes h (wordAt m 0) (omega arith)))
 
   pub length-encoded : length (encode (tableOf m)) ≡ offsetAt m (wordAt m 0) 4
   unfolding encode tableOf

@@ -32,9 +32,10 @@ use Rattle.table.specs.Memory.{
 }
 use Rattle.table.specs.Reading.{Rest}
 use Rattle.table.proofs.Within.{held, Here, rest-start, rest-here, rest-next, entriesAt-step, entriesAt-none, length-path}
-use Rattle.table.proofs.Codec.{Bytes, length-encodeEntry, encodeAll-append, head-of, entry-law, front}
+use Rattle.table.proofs.Codec.{length-encodeEntry, encodeAll-append, head-of, entry-law, front}
 use Rattle.table.proofs.Overwrites.{drop-behind, over-above, headed}
 use Rattle.table.proofs.Puts.{put-self}
+use Rattle.paths.specs.Components.{Bytes}
 use Rattle.paths.specs.Copying.{overwrite}
 use Rattle.paths.specs.Relations.{isPrefix}
 
@@ -169,7 +170,7 @@ module _ {dropped : Entry → Bool} {m₀ m : List ℕ} {left kept from to : ℕ
 
     next-bytes : Bytes m₀ → take size (drop from m) ≡ encodeEntry (entryAt m₀ from)
     next-bytes b =
-        ap (take size) (same-from from (omega arith) ∙ entry-law m₀ from (b (from + 1 + 1)) here)
+        ap (take size) (same-from from (omega arith) ∙ entry-law m₀ from (b .each (from + 1 + 1)) here)
         ∙ take-at (encodeEntry (entryAt m₀ from)) _ size next-size
 
     -- it is kept

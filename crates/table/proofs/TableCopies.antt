@@ -6,10 +6,10 @@ use mathlib.Core.Bool.{true}
 use native.Mathlib.Omega.{arith}
 use native.Mathlib.Nat.{zero-add, sub-zero}
 use lib.ListN.{length, take, drop}
+use Rattle.paths.specs.Components.{Bytes}
 use Rattle.paths.specs.Copying.{overwrite}
 use Rattle.table.specs.Memory.{tableBytes, tableOf, holds, encode, put}
 use Rattle.table.specs.Listing.{usedBytes}
-use Rattle.table.proofs.Codec.{Bytes}
 use Rattle.table.proofs.Puts.{valid-of, encode-fits}
 use Rattle.table.proofs.ListingLaws.{used-front}
 

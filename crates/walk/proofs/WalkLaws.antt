@@ -4,7 +4,7 @@ use Prim.Native.Nat.{ℕ, zero, suc, _<_}
 use mathlib.Core.Path.{_≡_, refl, sym, _∙_}
 use mathlib.Core.List.{List, [], _∷_}
 use mathlib.Core.Option.{Option, none, some}
-use mathlib.Core.Bool.{Bool, true, false, _&&_, _||_, not, cond, and-false, true≢false}
+use mathlib.Core.Bool.{Bool, true, false, _&&_, _||_, not, and-false, true≢false}
 use native.Mathlib.Omega.{arith}
 use lib.Dec.{eqb}
 use borrow.Author.Tests.{eqb-true, not-true}
@@ -35,7 +35,7 @@ use Rattle.walk.specs.Walk.{
 use Rattle.walk.specs.Matching.{exactBy, exactMatch}
 use Rattle.paths.specs.Relations.{isPrefix}
 use Rattle.paths.specs.Giving.{Query, noPath, path}
-use Rattle.paths.proofs.ComponentLaws.{and-left, and-right}
+use Rattle.paths.proofs.ComponentLaws.{and-left, and-right, either}
 use Rattle.table.specs.declared.Cursor.{Cursor}
 use Rattle.table.specs.declared.Kind.{Kind}
 use Rattle.table.specs.declared.Kind.the-variants.{G, D, P, I}
@@ -195,11 +195,6 @@ no-flag : (q : List ℕ) {es : List Entry} → Grants es → any (isFlagBelow q)
 unfolding any isFlagBelow isFlag
 no-flag q no-entry = refl
 no-flag q (grant k g) = rw k (no-flag q g)
-
--- one of two, by a test
-pub either : {A : Type 0} (F : A → Type 0) (b : Bool) (x y : A) → F x → F y → F (cond b x y)
-either F true x y p r = p
-either F false x y p r = r
 
 -- the first match is a G, if there is one
 by-first : (t : Table) (mode : AllowPartial) (q : List ℕ) {es : List Entry} → Grants es

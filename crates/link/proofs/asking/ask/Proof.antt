@@ -82,11 +82,11 @@ enum-known-state c = search needs
 array-share-prefix-resolved : tie.Need-array-share-prefix-resolved
 array-share-prefix-resolved c = settled-stands (c .before .before .before .before .before .before .before .settle .ensures) (c .before .before .before .state .given .1) .room
 
-slice-aggregate-send : tie.Need-slice-aggregate-send
-slice-aggregate-send c = sym (length-take-le _ _ (array-share-prefix-resolved (c .before)))
+slice-aggregate-send-at : tie.Need-slice-aggregate-send-at
+slice-aggregate-send-at c = sym (length-take-le _ _ (array-share-prefix-resolved (c .before)))
 
-send-requires : tie.Need-send-requires
-send-requires c κs = ask-sendable (c .before .before .before .before .before .before .before .before .settle .ensures) (c .before .before .before .before .state .given .1) (sym (c .before .before .before .before .before .before .before .before .before .before .before .before .before .before .before .before .before .before .before .holds-table .ensures) ∙ not-false _ (c .before .before .before .before .before .before .before .before .before .before .before .before .before .before .before .before .before .before .if1 .left)) (omega arith)
+send-at-requires : tie.Need-send-at-requires
+send-at-requires c κs = ask-sendable (c .before .before .before .before .before .before .before .before .settle .ensures) (c .before .before .before .before .state .given .1) (sym (c .before .before .before .before .before .before .before .before .before .before .before .before .before .before .before .before .before .before .before .holds-table .ensures) ∙ not-false _ (c .before .before .before .before .before .before .before .before .before .before .before .before .before .before .before .before .before .before .if1 .left)) (omega arith)
 
 finish-requires : tie.Need-finish-requires
 finish-requires c κs = text-room (omega arith) (settled-stands (c .before .before .before .before .before .before .before .before .before .before .before .before .before .settle .ensures) (c .before .before .before .before .before .before .before .before .before .state .given .1))
@@ -113,7 +113,7 @@ returns-6 : tie.Need-returns-6
 returns-6 c =
     settled-sends (c .before .before .before .before .before .before .before .before .before .before .before .before .before .before .before .before .settle .ensures) (c .before .before .before .before .before .before .before .before .before .before .before .before .state .given .1)
     (ask-known _ _ _ _ _ _ _ _ _ (sym (c .before .before .before .before .before .before .before .before .before .before .before .before .before .before .before .before .before .before .before .before .before .before .before .before .before .before .before .holds-table .ensures) ∙ not-false _ (c .before .before .before .before .before .before .before .before .before .before .before .before .before .before .before .before .before .before .before .before .before .before .before .before .before .before .if1 .left)) (omega (arith, c .before .before .before .before .before .before .before .before .before .before .before .before .before .before .before .before .before .before .before .before .before .before .before .before .before .if2 .left)) (omega (arith, c .before .before .before .before .before .before .before .before .before .before .before .before .before .before .before .before .before .before .before .before .before .before .before .before .if3 .left)) _ (sym (c .before .before .before .before .before .before .before .before .before .before .before .before .before .before .before .before .before .before .before .before .before .before .before .response-of .ensures) ∙ c .before .before .before .before .before .before .before .before .before .before .before .before .before .before .before .before .before .before .before .before .before .known .given .1))
-    (c .before .before .finish .ensures) (c .before .before .before .before .before .before .before .send .ensures)
+    (c .before .before .finish .ensures) (c .before .before .before .before .before .before .before .send-at .ensures)
 
 pub ask-spec : {M : Type 1} → statement M
 ask-spec =
@@ -140,8 +140,8 @@ ask-spec =
     refused-requires-5
     enum-known-state
     array-share-prefix-resolved
-    slice-aggregate-send
-    send-requires
+    slice-aggregate-send-at
+    send-at-requires
     finish-requires
     same-length-5
     returns-5

@@ -19,8 +19,8 @@ enum-told c = search needs
 revoke-action-requires : tie.Need-revoke-action-requires
 revoke-action-requires c κs = search needs
 
-send-requires : tie.Need-send-requires
-send-requires c κs =
+send-at-requires : tie.Need-send-at-requires
+send-at-requires c κs =
     let pre = c .before .before .before .before .before .before .before .before .before .before .before .before .before .pre in
     revoke-sendable _ _ (c .before .before .before .before .before .before .before .revoke-query .ensures) (c .before .before .before .enum-told .given .1) (c .revoke-action .ensures _) (pre .1 .0) (pre .1 .1)
 
@@ -37,7 +37,7 @@ same-length-3 : tie.Need-same-length-3
 same-length-3 c = search needs
 
 returns-2 : tie.Need-returns-2
-returns-2 c = performs-revoked _ _ (c .before .before .before .before .before .before .before .before .before .before .revoke-query .ensures) (c .before .before .before .before .before .before .enum-told .given .1) (c .before .before .before .revoke-action .ensures _) (c .before .before .send .ensures)
+returns-2 c = performs-revoked _ _ (c .before .before .before .before .before .before .before .before .before .before .revoke-query .ensures) (c .before .before .before .before .before .before .enum-told .given .1) (c .before .before .before .revoke-action .ensures _) (c .before .before .send-at .ensures)
 
 pub revoke-resolved-spec : {M : Type 1} → statement M
 revoke-resolved-spec =
@@ -48,7 +48,7 @@ revoke-resolved-spec =
     refused-requires
     enum-told
     revoke-action-requires
-    send-requires
+    send-at-requires
     same-length
     returns
     same-length-2

@@ -1,5 +1,5 @@
 -- `is_nothing` meets its contract.
-use Rattle.link.specs.Sending.{isNone}
+use Rattle.link.specs.Steps.{isNone}
 use Rattle.table.specs.Carrying.{actOf}
 use borrow.Author.Needs.{needs}
 use Rattle.link.proofs.sending.is_nothing.Statement.{statement}

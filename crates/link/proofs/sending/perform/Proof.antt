@@ -14,8 +14,8 @@ enum-known-cause c = search needs
 enum-told : tie.Need-enum-told
 enum-told c = search needs
 
-send-requires : tie.Need-send-requires
-send-requires c κs =
+send-at-requires : tie.Need-send-at-requires
+send-at-requires c κs =
     let pre = c .before .before .before .before .before .before .before .before .before .before .before .before .pre in
     record {
       fitting = pre .1 .0;
@@ -36,7 +36,7 @@ same-length-3 : tie.Need-same-length-3
 same-length-3 c = search needs
 
 returns-2 : tie.Need-returns-2
-returns-2 c = performs-done (c .before .before .before .before .before .before .before .before .before .carry-out .ensures) (c .before .before .before .before .before .enum-told .given .1) (c .before .before .send .ensures)
+returns-2 c = performs-done (c .before .before .before .before .before .before .before .before .before .carry-out .ensures) (c .before .before .before .before .before .enum-told .given .1) (c .before .before .send-at .ensures)
 
 pub perform-spec : {M : Type 1} → statement M
 perform-spec =
@@ -45,7 +45,7 @@ perform-spec =
     carry-out-requires
     enum-known-cause
     enum-told
-    send-requires
+    send-at-requires
     same-length
     returns
     same-length-2

@@ -21,6 +21,9 @@ shared-slice-read-word c = search needs
 returns-2 : tie.Need-returns-2
 returns-2 c = let a = c .before .before .before .args in switches-other (now (a .words)) (a .from) _ (omega arith) (c .if2 .taken)
 
+cast-if3 : tie.Need-cast-if3
+cast-if3 c = search needs
+
 returns-3 : tie.Need-returns-3
 returns-3 c = let a = c .before .before .before .before .args in switches-unknown (now (a .words)) (a .from) _ (omega arith) (omega arith)
 
@@ -42,6 +45,7 @@ read-with-switches-spec =
     mul-word
     shared-slice-read-word
     returns-2
+    cast-if3
     returns-3
     cast-t11
     add-t7

@@ -21,7 +21,7 @@ same-length : tie.Need-same-length
 same-length c = search needs
 
 returns : tie.Need-returns
-returns c = record { words = over-sets (c .args .head ∷ []) (now (c .args .words)) (c .args .at) (omega arith); end = refl }
+returns c = record { content = over-sets (c .args .head ∷ []) (now (c .args .words)) (c .args .at) (omega arith); end = refl }
 
 pub write-alone-spec : {M : Type 1} → statement M
 write-alone-spec = tie.close (tie.spec mul-words slice-write-words add-result same-length returns)

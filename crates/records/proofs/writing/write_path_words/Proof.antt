@@ -66,7 +66,7 @@ returns c =
     let a = l .before .before .before .before .args in
     let n = path-count (now (a .p)) in
     let z : l .loop .k ≡ length (pathWords (now (a .p))) = omega arith in
-    record { words = l .loop .inv .1 ∙ rw z (paste-whole (now (a .words)) (a .at) (pathWords (now (a .p)))); end = omega arith }
+    record { content = l .loop .inv .1 ∙ rw z (paste-whole (now (a .words)) (a .at) (pathWords (now (a .p)))); end = omega arith }
 
 pub write-path-words-spec : {M : Type 1} → statement M
 write-path-words-spec =

@@ -4,9 +4,8 @@ use mathlib.Core.Path.{ap, _∙_}
 use native.Mathlib.Omega.{arith}
 use Rattle.records.specs.Records.{headWord}
 use Rattle.records.proofs.RecordLaws.{insert-few}
+use Rattle.table.proofs.Overwrites.{appends-none, appends-as}
 use Rattle.records.proofs.WritingLaws.{
-  writes-none,
-  writes-as,
   no-words,
   insert-words,
   switches-words,
@@ -62,7 +61,7 @@ write-alone-requires : tie.Need-write-alone-requires
 write-alone-requires c κs = search needs
 
 returns : tie.Need-returns
-returns c = writes-as (no-words _ _ (c .enum-told .given .1)) (writes-none _ _)
+returns c = appends-as (no-words _ _ (c .enum-told .given .1)) (appends-none _ _)
 
 same-length : tie.Need-same-length
 same-length c = search needs
@@ -72,7 +71,7 @@ returns-2 c =
     let k = c .before .before .before .before .before .before .before in
     let n = k .before .before .before .before .args .number in
     let h = c .before .before .before .head-word .ensures ∙ ap (λ (j : ℕ). headWord j n) (c .before .before .before .before .insert-number .ensures) in
-    writes-as (insert-words n _ (k .action .given .1) h) (c .before .before .write-with-path .ensures)
+    appends-as (insert-words n _ (k .action .given .1) h) (c .before .before .write-with-path .ensures)
 
 same-length-2 : tie.Need-same-length-2
 same-length-2 c = search needs
@@ -80,7 +79,7 @@ same-length-2 c = search needs
 returns-3 : tie.Need-returns-3
 returns-3 c =
     let h = c .before .before .before in
-    writes-as (switches-words _ _ (h .before .before .before .action2 .given .1) (h .head-word2 .ensures)) (c .before .before .write-with-switches .ensures)
+    appends-as (switches-words _ _ (h .before .before .before .action2 .given .1) (h .head-word2 .ensures)) (c .before .before .write-with-switches .ensures)
 
 same-length-3 : tie.Need-same-length-3
 same-length-3 c = search needs
@@ -88,7 +87,7 @@ same-length-3 c = search needs
 returns-4 : tie.Need-returns-4
 returns-4 c =
     let h = c .before .before .before in
-    writes-as (revoke-words _ _ (h .before .before .enum-told2 .given .1) (h .head-word3 .ensures)) (c .before .before .write-with-path2 .ensures)
+    appends-as (revoke-words _ _ (h .before .before .enum-told2 .given .1) (h .head-word3 .ensures)) (c .before .before .write-with-path2 .ensures)
 
 same-length-4 : tie.Need-same-length-4
 same-length-4 c = search needs
@@ -96,7 +95,7 @@ same-length-4 c = search needs
 returns-5 : tie.Need-returns-5
 returns-5 c =
     let h = c .before .before .before in
-    writes-as (revoke-all-words _ _ (h .before .before .enum-told3 .given .1) (h .head-word4 .ensures)) (c .before .before .write-alone .ensures)
+    appends-as (revoke-all-words _ _ (h .before .before .enum-told3 .given .1) (h .head-word4 .ensures)) (c .before .before .write-alone .ensures)
 
 pub write-record-spec : {M : Type 1} → statement M
 write-record-spec =

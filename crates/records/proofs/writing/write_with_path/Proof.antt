@@ -45,7 +45,7 @@ returns c =
     let w = c .before .before .write-path-words .ensures in
     let a = c .before .before .before .before .before .before .before .args in
     record {
-      words = w .words ∙ rw (c .before .before .before .before .word-of .ensures) (two-before (now (a .words)) (a .at) (a .head) _ _ (omega arith));
+      content = w .content ∙ rw (c .before .before .before .before .word-of .ensures) (two-before (now (a .words)) (a .at) (a .head) _ _ (omega arith));
       end = w .end ∙ omega arith;
     }
 

@@ -32,7 +32,7 @@ same-length : tie.Need-same-length
 same-length c = search needs
 
 returns : tie.Need-returns
-returns c = record { words = rw (← c .word-of .ensures) (two-stores _ _ _ _ (omega arith)); end = refl }
+returns c = record { content = rw (← c .word-of .ensures) (two-stores _ _ _ _ (omega arith)); end = refl }
 
 pub write-with-switches-spec : {M : Type 1} → statement M
 write-with-switches-spec =

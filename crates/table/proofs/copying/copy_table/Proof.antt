@@ -21,7 +21,7 @@ part-copy-in-end c = omega (arith, c .before .used .ensures .1, long-of _ (c .be
 copy-in-requires : tie.Need-copy-in-requires
 copy-in-requires c κs =
     let s = c .before .before .before .before in
-    copy-fits _ (λ i. s .shared-slice-known .given i .fits) (s .before .pre .0) (c .before .before .used .ensures .0) (s .before .pre .1)
+    copy-fits _ (record { each = λ i. s .shared-slice-known .given i .fits }) (s .before .pre .0) (c .before .before .used .ensures .0) (s .before .pre .1)
 
 same-length : tie.Need-same-length
 same-length c = search needs
@@ -30,7 +30,7 @@ returns : tie.Need-returns
 returns c =
     let k = c .before .before in
     let s = k .before .before .before .before .before in
-    copy-law _ (λ i. s .shared-slice-known .given i .fits) (s .before .pre .0) (k .before .before .before .used .ensures .0) _ (k .copy-in .ensures)
+    copy-law _ (record { each = λ i. s .shared-slice-known .given i .fits }) (s .before .pre .0) (k .before .before .before .used .ensures .0) _ (k .copy-in .ensures)
 
 pub copy-table-spec : {M : Type 1} → statement M
 copy-table-spec =

@@ -106,7 +106,7 @@ returns c =
     let u = w .before .before .before .before in
     let o = u .before .before .before .before in
     let s = start o in
-    insert-steps (memory o) (λ i. o .before .before .before .before .before .before .before .slice-known .given i .fits) (s .pre .0)
+    insert-steps (memory o) (record { each = λ i. o .before .before .before .before .before .before .before .slice-known .given i .fits }) (s .pre .0)
     (s .args .place) (s .pre .1 .0 .0) (record { kind = s .args .kind; path = now (s .args .path) }) _ _ _ _ _ _ _ (room-is o)
     (start-is o) (end-is o) (count-is o) (u .before .before .marked .ensures)
     (u .move-up .ensures) (w .write-entry .ensures) (n .set-count .ensures)

@@ -21,7 +21,7 @@ same-length c = search needs
 returns : tie.Need-returns
 returns c =
     let s = c .before .before .before in
-    λ p. mark-law _ (λ i. c .before .before .slice-known .given i .fits) (s .pre) (record { kind = s .args .kind; path = p }) _ (c .marked .ensures)
+    λ p. mark-law _ (record { each = λ i. c .before .before .slice-known .given i .fits }) (s .pre) (record { kind = s .args .kind; path = p }) _ (c .marked .ensures)
 
 pub set-mark-spec : {M : Type 1} → statement M
 set-mark-spec =

@@ -15,7 +15,7 @@ entry-offset-requires c κs = search needs
 returns : tie.Need-returns
 returns c =
     let s = c .before .before in
-    used-end _ (λ i. s .shared-slice-known .given i .fits) (s .before .pre) (c .before .word-at .ensures .0) (c .entry-offset .ensures)
+    used-end _ (record { each = λ i. s .shared-slice-known .given i .fits }) (s .before .pre) (c .before .word-at .ensures .0) (c .entry-offset .ensures)
 
 pub used-spec : {M : Type 1} → statement M
 used-spec = tie.close (tie.spec word-at-requires entry-offset-requires returns)

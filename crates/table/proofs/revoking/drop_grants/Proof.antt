@@ -81,7 +81,7 @@ loop-again-2 c =
     let w = d .before .before in
     let t = w .before .before in
     kept-move (t .loop-test .taken) (t .before .loop .inv) _ (ap (λ (n : ℕ). n + 3) (w .word-at2 .ensures .0))
-    (λ k. t .before .before .before .before .before .slice-known .given k .fits) _ _ (d .is-dropped .ensures) (i .if1 .left)
+    (record { each = λ k. t .before .before .before .before .before .slice-known .given k .fits }) _ _ (d .is-dropped .ensures) (i .if1 .left)
     (v .move-down .ensures) (v .move-down .kept .0)
 
 set-count-requires : tie.Need-set-count-requires Inv-loop μ-loop
@@ -97,7 +97,7 @@ returns c =
     let n = c .before .before in
     let t = n .before .before in
     let s = t .before .before .before .before .before in
-    kept-end _ _ _ _ _ _ _ _ (λ k. s .slice-known .given k .fits) (s .before .pre) (t .loop-test .left) (t .before .loop .inv)
+    kept-end _ _ _ _ _ _ _ _ (record { each = λ k. s .slice-known .given k .fits }) (s .before .pre) (t .loop-test .left) (t .before .loop .inv)
     (n .set-count .ensures)
 
 pub drop-grants-spec : {M : Type 1} → statement M

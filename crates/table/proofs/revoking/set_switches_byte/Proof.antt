@@ -15,7 +15,7 @@ same-length c = search needs
 returns : tie.Need-returns
 returns c =
     let s = c .before .before .before .before in
-    switch-law _ _ _ (λ i. s .slice-known .given i .fits) (s .before .pre .0) (c .before .before .write-switches .ensures)
+    switch-law _ _ _ (record { each = λ i. s .slice-known .given i .fits }) (s .before .pre .0) (c .before .before .write-switches .ensures)
 
 pub set-switches-byte-spec : {M : Type 1} → statement M
 set-switches-byte-spec = tie.close (tie.spec write-switches-requires same-length returns)

@@ -47,7 +47,10 @@ same-length-3 : tie.Need-same-length-3
 same-length-3 c = search needs
 
 returns-3 : tie.Need-returns-3
-returns-3 c = asks-refused (ask-no-room _ _ _ _ _ _ _ _ _ (sym (c .before .before .before .before .holds-table .ensures) ∙ not-false _ (c .before .before .before .if1 .left)) (omega arith) (omega arith)) (c .refused3 .ensures) refl
+returns-3 c =
+    let tested = c .before .before .before in
+    let held = sym (tested .before .holds-table .ensures) ∙ not-false _ (tested .if1 .left) in
+    asks-refused (ask-no-room _ _ _ _ _ _ _ _ _ held (omega arith) (omega arith)) (c .refused3 .ensures) refl
 
 response-of-requires : tie.Need-response-of-requires
 response-of-requires c κs = search needs
@@ -65,10 +68,14 @@ same-length-4 : tie.Need-same-length-4
 same-length-4 c = search needs
 
 returns-4 : tie.Need-returns-4
-returns-4 c = asks-refused (ask-unknown _ _ _ _ _ _ _ _ _ (sym (c .before .before .before .before .before .before .before .holds-table .ensures) ∙ not-false _ (c .before .before .before .before .before .before .if1 .left)) (omega arith) (omega arith) (sym (c .before .before .before .response-of .ensures) ∙ c .before .enum-told .given .1)) (c .refused4 .ensures) refl
+returns-4 c =
+    let tested = c .before .before .before .before .before .before in
+    let held = sym (tested .before .holds-table .ensures) ∙ not-false _ (tested .if1 .left) in
+    let unknown = sym (c .before .before .before .response-of .ensures) ∙ c .before .enum-told .given .1 in
+    asks-refused (ask-unknown _ _ _ _ _ _ _ _ _ held (omega arith) (omega arith) unknown) (c .refused4 .ensures) refl
 
 settle-requires : tie.Need-settle-requires
-settle-requires c κs = sym (c .before .before .before .before .before .before .before .before .before .before .holds-table .ensures) ∙ not-false _ (c .before .before .before .before .before .before .before .before .before .if1 .left)
+settle-requires c κs = let tested = c .before .before .before .before .before .before .before .before .before in sym (tested .before .holds-table .ensures) ∙ not-false _ (tested .if1 .left)
 
 enum-known-cause : tie.Need-enum-known-cause
 enum-known-cause c = search needs
@@ -86,18 +93,28 @@ slice-aggregate-send-at : tie.Need-slice-aggregate-send-at
 slice-aggregate-send-at c = sym (length-take-le _ _ (array-share-prefix-resolved (c .before)))
 
 send-at-requires : tie.Need-send-at-requires
-send-at-requires c κs = ask-sendable (c .before .before .before .before .before .before .before .before .settle .ensures) (c .before .before .before .before .state .given .1) (sym (c .before .before .before .before .before .before .before .before .before .before .before .before .before .before .before .before .before .before .before .holds-table .ensures) ∙ not-false _ (c .before .before .before .before .before .before .before .before .before .before .before .before .before .before .before .before .before .before .if1 .left)) (omega arith)
+send-at-requires c κs =
+    let decided = c .before .before .before .before in
+    let known = decided .before .before .before .before .before .before .before .before .before in
+    let tested = known .before .before .before .before .before in
+    let held = sym (tested .before .holds-table .ensures) ∙ not-false _ (tested .if1 .left) in
+    ask-sendable (decided .before .before .before .before .settle .ensures) (decided .state .given .1) held (omega (arith, known .before .before .before .if3 .left))
 
 finish-requires : tie.Need-finish-requires
-finish-requires c κs = text-room (omega arith) (settled-stands (c .before .before .before .before .before .before .before .before .before .before .before .before .before .settle .ensures) (c .before .before .before .before .before .before .before .before .before .state .given .1))
+finish-requires c κs =
+    let decided = c .before .before .before .before .before .before .before .before .before in
+    text-room (omega arith) (settled-stands (decided .before .before .before .before .settle .ensures) (decided .state .given .1))
 
 same-length-5 : tie.Need-same-length-5
 same-length-5 c = search needs
 
 returns-5 : tie.Need-returns-5
 returns-5 c =
-    settled-stops (c .before .before .before .before .before .before .settle .ensures)
-    (ask-known _ _ _ _ _ _ _ _ _ (sym (c .before .before .before .before .before .before .before .before .before .before .before .before .before .before .before .before .before .holds-table .ensures) ∙ not-false _ (c .before .before .before .before .before .before .before .before .before .before .before .before .before .before .before .before .if1 .left)) (omega arith) (omega arith) _ (sym (c .before .before .before .before .before .before .before .before .before .before .before .before .before .response-of .ensures) ∙ c .before .before .before .before .before .before .before .before .before .before .before .known .given .1))
+    let known = c .before .before .before .before .before .before .before .before .before .before .before in
+    let tested = known .before .before .before .before .before in
+    let held = sym (tested .before .holds-table .ensures) ∙ not-false _ (tested .if1 .left) in
+    let read = sym (known .before .before .response-of .ensures) ∙ known .known .given .1 in
+    settled-stops (c .before .before .before .before .before .before .settle .ensures) (ask-known _ _ _ _ _ _ _ _ _ held (omega arith) (omega arith) _ read)
     (c .before .before .cause .given .1) (c .refused5 .ensures)
 
 same-length-6 : tie.Need-same-length-6
@@ -111,8 +128,13 @@ same-length-8 c = search needs
 
 returns-6 : tie.Need-returns-6
 returns-6 c =
-    settled-sends (c .before .before .before .before .before .before .before .before .before .before .before .before .before .before .before .before .settle .ensures) (c .before .before .before .before .before .before .before .before .before .before .before .before .state .given .1)
-    (ask-known _ _ _ _ _ _ _ _ _ (sym (c .before .before .before .before .before .before .before .before .before .before .before .before .before .before .before .before .before .before .before .before .before .before .before .before .before .before .before .holds-table .ensures) ∙ not-false _ (c .before .before .before .before .before .before .before .before .before .before .before .before .before .before .before .before .before .before .before .before .before .before .before .before .before .before .if1 .left)) (omega (arith, c .before .before .before .before .before .before .before .before .before .before .before .before .before .before .before .before .before .before .before .before .before .before .before .before .before .if2 .left)) (omega (arith, c .before .before .before .before .before .before .before .before .before .before .before .before .before .before .before .before .before .before .before .before .before .before .before .before .if3 .left)) _ (sym (c .before .before .before .before .before .before .before .before .before .before .before .before .before .before .before .before .before .before .before .before .before .before .before .response-of .ensures) ∙ c .before .before .before .before .before .before .before .before .before .before .before .before .before .before .before .before .before .before .before .before .before .known .given .1))
+    let decided = c .before .before .before .before .before .before .before .before .before .before .before .before in
+    let known = decided .before .before .before .before .before .before .before .before .before in
+    let tested = known .before .before .before .before .before in
+    let held = sym (tested .before .holds-table .ensures) ∙ not-false _ (tested .if1 .left) in
+    let read = sym (known .before .before .response-of .ensures) ∙ known .known .given .1 in
+    settled-sends (decided .before .before .before .before .settle .ensures) (decided .state .given .1)
+    (ask-known _ _ _ _ _ _ _ _ _ held (omega (arith, known .before .before .before .before .if2 .left)) (omega (arith, known .before .before .before .if3 .left)) _ read)
     (c .before .before .finish .ensures) (c .before .before .before .before .before .before .before .send-at .ensures)
 
 pub ask-spec : {M : Type 1} → statement M

@@ -51,7 +51,11 @@ same-length-3 : tie.Need-same-length-3
 same-length-3 c = search needs
 
 returns-3 : tie.Need-returns-3
-returns-3 c = does-refuse (insert-unknown _ _ _ _ _ _ (sym (c .before .before .before .before .before .before .holds-table .ensures) ∙ not-false _ (c .before .before .before .before .before .if1 .left)) (omega arith) (sym (c .before .before .before .kind-of .ensures) ∙ c .before .enum-told .given .1)) (c .refused3 .ensures)
+returns-3 c =
+    let tested = c .before .before .before .before .before in
+    let held = sym (tested .before .holds-table .ensures) ∙ not-false _ (tested .if1 .left) in
+    let unknown = sym (c .before .before .before .kind-of .ensures) ∙ c .before .enum-told .given .1 in
+    does-refuse (insert-unknown _ _ _ _ _ _ held (omega arith) unknown) (c .refused3 .ensures)
 
 resolve-given-requires : tie.Need-resolve-given-requires
 resolve-given-requires c κs = search needs
@@ -73,16 +77,24 @@ slice-aggregate-perform c = sym (length-take-le _ _ (array-share-prefix-space (c
 
 perform-requires : tie.Need-perform-requires
 unfolding actOf fits isAct isEntry queryOf isQuery
-perform-requires c κs = ((sym (c .before .before .before .before .before .before .before .before .before .before .before .before .before .before .before .holds-table .ensures) ∙ not-false _ (c .before .before .before .before .before .before .before .before .before .before .before .before .before .before .if1 .left)), (gives-stands (c .before .before .before .before .before .before .before .resolve-given .ensures) (c .before .before .before .before .before .n .given .1) .fits, omega arith))
+perform-requires c κs =
+    let found = c .before .before .before .before .before in
+    let tested = c .before .before .before .before .before .before .before .before .before .before .before .before .before .before in
+    let held = sym (tested .before .holds-table .ensures) ∙ not-false _ (tested .if1 .left) in
+    (held, (gives-stands (found .before .before .resolve-given .ensures) (found .n .given .1) .fits, omega arith))
 
 same-length-4 : tie.Need-same-length-4
 same-length-4 c = search needs
 
 returns-4 : tie.Need-returns-4
 returns-4 c =
+    let known = c .before .before .before .before .before .before .before in
+    let tested = known .before .before .before .before in
+    let held = sym (tested .before .holds-table .ensures) ∙ not-false _ (tested .if1 .left) in
+    let read = sym (known .before .before .kind-of .ensures) ∙ known .known .given .1 in
     does-refuse
-    (insert-refused _ _ _ _ _ _ (sym (c .before .before .before .before .before .before .before .before .before .before .before .before .holds-table .ensures) ∙ not-false _ (c .before .before .before .before .before .before .before .before .before .before .before .if1 .left)) (omega arith) (sym (c .before .before .before .before .before .before .before .before .before .kind-of .ensures) ∙ c .before .before .before .before .before .before .before .known .given .1)
-    (gives-refused (c .before .before .before .before .resolve-given .ensures) (c .before .before .cause .given .1))) (c .refused4 .ensures)
+    (insert-refused _ _ _ _ _ _ held (omega arith) read (gives-refused (c .before .before .before .before .resolve-given .ensures) (c .before .before .cause .given .1)))
+    (c .refused4 .ensures)
 
 same-length-5 : tie.Need-same-length-5
 same-length-5 c = search needs
@@ -93,9 +105,14 @@ same-length-6 c = search needs
 returns-5 : tie.Need-returns-5
 unfolding actOf
 returns-5 c =
+    let found = c .before .before .before .before .before .before .before .before .before .before in
+    let known = found .before .before .before .before .before in
+    let tested = known .before .before .before .before in
+    let held = sym (tested .before .holds-table .ensures) ∙ not-false _ (tested .if1 .left) in
+    let read = sym (known .before .before .kind-of .ensures) ∙ known .known .given .1 in
     does-perform
-    (insert-known _ _ _ _ _ _ (sym (c .before .before .before .before .before .before .before .before .before .before .before .before .before .before .before .before .before .before .before .before .holds-table .ensures) ∙ not-false _ (c .before .before .before .before .before .before .before .before .before .before .before .before .before .before .before .before .before .before .before .if1 .left)) (omega arith) (sym (c .before .before .before .before .before .before .before .before .before .before .before .before .before .before .before .before .before .kind-of .ensures) ∙ c .before .before .before .before .before .before .before .before .before .before .before .before .before .before .before .known .given .1) _
-    (gives-stands (c .before .before .before .before .before .before .before .before .before .before .before .before .resolve-given .ensures) (c .before .before .before .before .before .before .before .before .before .before .n .given .1) .query)) (c .before .before .before .before .perform .ensures)
+    (insert-known _ _ _ _ _ _ held (omega arith) read _ (gives-stands (found .before .before .resolve-given .ensures) (found .n .given .1) .query))
+    (c .before .before .before .before .perform .ensures)
 
 pub insert-spec : {M : Type 1} → statement M
 insert-spec =

@@ -1,6 +1,6 @@
 // The texts: written when the operator is asked and when a check fails.
 use paths::Descriptor;
-use paths::copying::copy_in;
+use paths::copying::append;
 ghost use mathlib.Core.Path.{_≡_};
 ghost use mathlib.Core.Bool.{_&&_};
 ghost use Prim.Native.Nat.{_+_, _≤_};
@@ -49,15 +49,6 @@ fn is_in_angles(name: &[u8]) -> bool
         return ends_with(name, b'>');
     }
     false
-}
-
-// Writes a piece into the space from an offset on, and says where it ends.
-fn append(space: &mut [u8], at: usize, piece: &[u8]) -> usize
-    requires { ⌜ at + length (now piece) ≤ length (now space) ⌝ }
-    ensures { λ r. ⌜ Appends (now (piece .entry)) (now (space .entry)) at (now (space .exit)) r ⌝ }
-{
-    copy_in(space, at, piece);
-    at + piece.len()
 }
 
 // Writes a name as it is shown: in double quotes, unless it is in angle brackets.

@@ -13,14 +13,16 @@
  * through the pointer, and it may be NULL. Areas that are only read may overlap;
  * an area that is written must overlap no other one of the same call. Contents
  * may be anything. A lent number (uint32_t *asked, size_t *text_size) must not be
- * NULL and is written by every call, by a refused one too (0 there, but for the
- * child call's count).
+ * NULL. Those that take a result are written by every call, by a refused one too:
+ * 0 there, but for the counts of a child call. A main's change number (uint64_t
+ * *number, see the link) is state, as a table is, and takes no result.
  *
  * Results. A negative result -n is refusal n (enum permissions_refusal). Each
  * refusal comes in exactly its condition, when the earlier ones that apply do not
- * hold. A refused call changes no byte of any area, but for what the child call
- * names. 0 from a check means that the path may be read, and no other result
- * does: `if (permissions_check(..) != 0) deny();` is right and complete.
+ * hold. A refused call changes no byte of any area and no change number, but for
+ * what the child calls name. 0 from a check means that the path may be read, and
+ * no other result does: `if (permissions_check(..) != 0) deny();` is right and
+ * complete.
  *
  * Paths are bytes, not ended by a zero byte. A path that does not begin with '/'
  * is joined to the working directory; "." and empty components vanish, and ".."
@@ -34,9 +36,9 @@
  *
  * Properties. No state outside the areas, no allocation, no system call, no
  * locale, no signal: reentrant. Calls on different tables may run at once, and so
- * may calls that only read one table. Areas of bytes have any alignment. Each call
- * ends after work that its arguments bound. Stack: at most PERMISSIONS_STACK_BYTES.
- * From libc: memcpy and memset.
+ * may calls that only read one table. Areas of bytes have any alignment, numbers
+ * that of their type. Each call ends after work that its arguments bound. Stack:
+ * at most PERMISSIONS_STACK_BYTES. From libc: memcpy and memset.
  */
 #ifndef PERMISSIONS_H
 #define PERMISSIONS_H
@@ -49,9 +51,9 @@ extern "C" {
 #endif
 
 #define PERMISSIONS_VERSION_MAJOR 0
-#define PERMISSIONS_VERSION_MINOR 2
+#define PERMISSIONS_VERSION_MINOR 3
 #define PERMISSIONS_VERSION_PATCH 0
-#define PERMISSIONS_VERSION "0.2.0"
+#define PERMISSIONS_VERSION "0.3.0"
 
 /* The compiler warns where the result of a call is dropped, if it can. */
 #if defined(__GNUC__)
@@ -66,11 +68,15 @@ extern "C" {
 /* The size of the space for a text. More may be lent, and is left alone. */
 #define PERMISSIONS_TEXT_BYTES 1041u
 
+/* The words of the space for records; for a child list as many for each item. More may be lent, and is left alone. */
+#define PERMISSIONS_RECORD_WORDS 344u
+
 /* Limits. */
 #define PERMISSIONS_MAX_ENTRIES 256u
 #define PERMISSIONS_MAX_PATH_BYTES 1024u      /* of a path, as given or resolved, and of a working directory */
 #define PERMISSIONS_MAX_PATH_SUM_BYTES 32768u /* of all paths in a table */
 #define PERMISSIONS_MAX_ITEMS 64u             /* of a child list */
+#define PERMISSIONS_MAX_NUMBER 16777215u      /* of a change */
 
 /* The stack that a call takes at most. */
 #define PERMISSIONS_STACK_BYTES 4096u
@@ -131,11 +137,12 @@ enum permissions_child_code {
     PERMISSIONS_CHILD_LIST = 3         /* the items, if the parent passes each */
 };
 
-/* Refusals, as results. 9 and 11 belong to the link with the standby. */
+/* Refusals, as results. 9 is for linked calls alone, and 11 for records that arrive, for which there is no call here. */
 enum permissions_refusal {
     PERMISSIONS_REFUSAL_NO_TABLE = -1,          /* the memory is too small for a table, or holds none; memory about to get a
                                                    fresh or child table need only be large enough */
-    PERMISSIONS_REFUSAL_NO_SPACE = -2,          /* the text space is under 1,041 bytes */
+    PERMISSIONS_REFUSAL_NO_SPACE = -2,          /* the text space is under 1,041 bytes, or the record space under 344 words for
+                                                   each child item (at least 344) */
     PERMISSIONS_REFUSAL_UNKNOWN = -3,           /* an answer, mode, kind or child code is unknown, switches are above 31, or a
                                                    child's items or answers are not in order */
     PERMISSIONS_REFUSAL_EMPTY_PATH = -4,        /* the path is empty */
@@ -351,6 +358,140 @@ PERMISSIONS_MUST_USE
 int32_t permissions_entry(const void *memory, size_t memory_size, uint32_t place,
                           uint32_t *kind, size_t *path_start, size_t *path_size);
 
+/* ---- the link: the main's half ----
+ *
+ * A main keeps a standby ready by sending it a record of every change of its
+ * table. The linked calls are the calls above with these records written. Beside
+ * the plain call's arguments the program lends
+ *
+ *   number                  the main's change number, that of its last record: 0 beside a fresh table, and from then on
+ *                           kept, saved and restored with the table. Each record raises it by one
+ *   records, records_space  where the records of this call go, from the start; no more of it is touched. The space
+ *                           counts words, not bytes: sizeof records / sizeof records[0]
+ *   records_size            how many words hold records. Send them before the space is lent again
+ *
+ *     static uint64_t number;
+ *     static uint32_t records[PERMISSIONS_RECORD_WORDS];
+ *     result = permissions_linked_insert(table, sizeof table, &number, kind, path, path_size, directory, directory_size,
+ *                                        records, PERMISSIONS_RECORD_WORDS, &records_size);
+ *     send_to_standby(records, records_size);
+ *
+ * Answer, text and table are those of the plain call. Each act makes one record: an
+ * insert that is reached, even if an equal entry is found; switches set, even to
+ * what they were; a revoke, even of nothing. A check or request makes one act or
+ * none, a child call at most one for each item. Whoever does acts 1 to n in turn on
+ * a fresh table has the main's table after change n. A change that the main makes by
+ * a plain call has no record: it is lost for the standby.
+ *
+ * Two refusals are added to the plain call's:
+ *   2  the record space is under 344 words, in a child call under 344 for each item and at least 344; looked at right
+ *      behind the text space, whether or not there is anything to record
+ *   9  an act needs a number above PERMISSIONS_MAX_NUMBER; comes behind 8, and never without an act
+ * A refused call leaves number and records as they were, and records_size is 0; the child call names its exceptions.
+ *
+ * A record is one act with its number, in 32-bit words. In memory they are
+ * uint32_t as the host has them; on the wire the program chooses, and most
+ * significant byte first is suggested. A word's top four bits are its kind, and
+ * unused bits and bytes are zero:
+ *
+ *   word      kind  below the kind, from the highest bit on
+ *   head      1     act (4 bits), change number (24 bits): 1 to 16,777,215
+ *   length    2     zero (12 bits), the path's length (16 bits): 1 to 1,024
+ *   path      3     zero (4 bits), three bytes of the path (24 bits), the first highest
+ *   switches  4     zero (23 bits), the complete new switches (5 bits)
+ *
+ *   act                      the record's words
+ *   1  insert granted        head, length, path words
+ *   2  insert flag-denied    head, length, path words
+ *   3  insert flag-ignored   head, length, path words
+ *   4  insert prompt-denied  head, length, path words
+ *   5  switches              head, switches
+ *   6  revoke a path         head, length, path words
+ *   7  revoke all            head
+ *
+ * Acts 1 to 4 go in another sequence than enum permissions_kind. The path is the
+ * resolved one; its n bytes take (n + 2) / 3 words. Change 1, insert granted "/c":
+ *
+ *   11000001  head: act 1, change 1
+ *   20000002  length: 2 bytes
+ *   302F6300  path: '/', 'c', and a byte that is not used
+ */
+
+/* permissions_insert, recorded.
+ * Result: 0; refusals 1 to 9. */
+PERMISSIONS_MUST_USE
+int32_t permissions_linked_insert(void *memory, size_t memory_size, uint64_t *number, uint32_t kind,
+                                  const void *path, size_t path_size,
+                                  const void *directory, size_t directory_size,
+                                  uint32_t *records, size_t records_space, size_t *records_size);
+
+/* permissions_switches, recorded.
+ * Result: 0; refusals 1 to 3 and 9. */
+PERMISSIONS_MUST_USE
+int32_t permissions_linked_switches(void *memory, size_t memory_size, uint64_t *number, uint32_t switches,
+                                    uint32_t *records, size_t records_space, size_t *records_size);
+
+/* permissions_check and permissions_check_all, recorded; permissions_check_asks and
+ * permissions_check_all_asks say whether they would ask.
+ * Result: 0 it may be read; the state (enum permissions_state, 2 to 5) that it fails with; refusals 1 to 9, with no path
+ * 1 to 3 and 9. */
+PERMISSIONS_MUST_USE
+int32_t permissions_linked_check(void *memory, size_t memory_size, uint64_t *number,
+                                 const void *path, size_t path_size,
+                                 const void *directory, size_t directory_size,
+                                 uint32_t answer, void *text, size_t text_space,
+                                 uint32_t *records, size_t records_space,
+                                 uint32_t *asked, size_t *text_size, size_t *records_size);
+
+PERMISSIONS_MUST_USE
+int32_t permissions_linked_check_all(void *memory, size_t memory_size, uint64_t *number,
+                                     uint32_t answer, void *text, size_t text_space,
+                                     uint32_t *records, size_t records_space,
+                                     uint32_t *asked, size_t *text_size, size_t *records_size);
+
+/* permissions_request and permissions_request_all, recorded. A request that is
+ * Granted inserts, or with no path sets switch GRANTED, so it makes a record.
+ * Result: enum permissions_state; refusals 1 to 9, with no path 1 to 3 and 9. */
+PERMISSIONS_MUST_USE
+int32_t permissions_linked_request(void *memory, size_t memory_size, uint64_t *number,
+                                   const void *path, size_t path_size,
+                                   const void *directory, size_t directory_size,
+                                   uint32_t answer, void *text, size_t text_space,
+                                   uint32_t *records, size_t records_space,
+                                   uint32_t *asked, size_t *text_size, size_t *records_size);
+
+PERMISSIONS_MUST_USE
+int32_t permissions_linked_request_all(void *memory, size_t memory_size, uint64_t *number,
+                                       uint32_t answer, void *text, size_t text_space,
+                                       uint32_t *records, size_t records_space,
+                                       uint32_t *asked, size_t *text_size, size_t *records_size);
+
+/* permissions_revoke and permissions_revoke_all, recorded.
+ * Result: the state afterwards, in mode partial; refusals 1, 2, 4 to 7 and 9, with no path 1, 2 and 9. */
+PERMISSIONS_MUST_USE
+int32_t permissions_linked_revoke(void *memory, size_t memory_size, uint64_t *number,
+                                  const void *path, size_t path_size,
+                                  const void *directory, size_t directory_size,
+                                  uint32_t *records, size_t records_space, size_t *records_size);
+
+PERMISSIONS_MUST_USE
+int32_t permissions_linked_revoke_all(void *memory, size_t memory_size, uint64_t *number,
+                                      uint32_t *records, size_t records_space, size_t *records_size);
+
+/* permissions_child, with what the operator's answers change in the parent's table recorded.
+ * Result: 0; refusals 1 to 10. After 1 to 3 nothing has changed. After any other refusal the child's table is fresh, the
+ * parent keeps what permissions_child says, and so stay the numbers and records of these acts: records_size counts their
+ * words, and they are to be sent. Under 9 the parent keeps what the items before the refused one inserted. */
+PERMISSIONS_MUST_USE
+int32_t permissions_linked_child(void *parent, size_t parent_size, uint64_t *number,
+                                 void *child, size_t child_size, uint32_t code,
+                                 const void *items, size_t items_size,
+                                 const uint32_t *ends, size_t ends_count,
+                                 const uint32_t *answers, size_t answers_count,
+                                 const void *directory, size_t directory_size,
+                                 uint32_t *records, size_t records_space,
+                                 uint32_t *asked, size_t *records_size);
+
 /* ---- names ---- */
 
 /* The name of a state, or "unknown". */
@@ -384,7 +525,7 @@ static inline const char *permissions_refusal_name(int32_t result)
 {
     switch (result) {
     case PERMISSIONS_REFUSAL_NO_TABLE: return "no table";
-    case PERMISSIONS_REFUSAL_NO_SPACE: return "text space too small";
+    case PERMISSIONS_REFUSAL_NO_SPACE: return "text or record space too small";
     case PERMISSIONS_REFUSAL_UNKNOWN: return "unknown number or items out of order";
     case PERMISSIONS_REFUSAL_EMPTY_PATH: return "empty path";
     case PERMISSIONS_REFUSAL_PATH_TOO_LONG: return "path too long";

@@ -11,6 +11,9 @@ static unsigned char table[PERMISSIONS_TABLE_BYTES];
 static char text[PERMISSIONS_TEXT_BYTES + 1];
 static uint32_t asked;
 static size_t text_size;
+static uint64_t number;
+static uint32_t records[2 * PERMISSIONS_RECORD_WORDS];
+static size_t records_size;
 
 static void show(const char *what, int32_t result)
 {
@@ -58,11 +61,8 @@ static void show_asked_and_text(void)
     printf("\n");
 }
 
-static void check(const char *path, const char *directory, uint32_t answer)
+static void show_check(const char *path, const char *directory, uint32_t answer, int32_t result)
 {
-    int32_t result = permissions_check(table, sizeof table, path, strlen(path), directory, strlen(directory),
-                                       answer, text, sizeof text, &asked, &text_size);
-
     printf("check %s in %s, answer %u: ", path, directory, (unsigned)answer);
     if (result < 0)
         printf("refused %d", (int)-result);
@@ -71,6 +71,13 @@ static void check(const char *path, const char *directory, uint32_t answer)
     else
         printf("fails with %s", permissions_state_name(result));
     show_asked_and_text();
+}
+
+static void check(const char *path, const char *directory, uint32_t answer)
+{
+    show_check(path, directory, answer,
+               permissions_check(table, sizeof table, path, strlen(path), directory, strlen(directory),
+                                 answer, text, sizeof text, &asked, &text_size));
 }
 
 static void request(const char *path, const char *directory, uint32_t answer)
@@ -275,6 +282,101 @@ static void children(void)
                            items, 10, ends, 1, answers, 1, NULL, 0, &asked));
 }
 
+/* The main's number, and the words of the records that a linked call wrote. */
+static void show_records(void)
+{
+    size_t i;
+
+    printf("number %u%s", (unsigned)number, records_size > 0 ? ":" : "");
+    for (i = 0; i < records_size; i++)
+        printf(" %08X", (unsigned)records[i]);
+    printf("\n");
+}
+
+static void linked_insert(uint32_t kind, const char *path)
+{
+    must(path, permissions_linked_insert(table, sizeof table, &number, kind, path, strlen(path), NULL, 0,
+                                         records, PERMISSIONS_RECORD_WORDS, &records_size));
+    show_records();
+}
+
+static void linked_switches(uint32_t value, size_t space)
+{
+    must("switches", permissions_linked_switches(table, sizeof table, &number, value, records, space, &records_size));
+    show_records();
+}
+
+static void linked_check(const char *path, const char *directory, uint32_t answer)
+{
+    show_check(path, directory, answer,
+               permissions_linked_check(table, sizeof table, &number, path, strlen(path), directory, strlen(directory),
+                                        answer, text, sizeof text, records, PERMISSIONS_RECORD_WORDS,
+                                        &asked, &text_size, &records_size));
+    show_records();
+}
+
+/* Every act makes a record with the next number; what makes no act needs none. */
+static void a_main(void)
+{
+    static unsigned char before[sizeof table];
+
+    puts("-- a main");
+    fresh();
+    linked_insert(PERMISSIONS_KIND_GRANTED, "/c");
+    linked_insert(PERMISSIONS_KIND_GRANTED, "/c"); /* an equal entry is found */
+    linked_switches(PERMISSIONS_SWITCH_PROMPT, PERMISSIONS_RECORD_WORDS);
+    linked_check("run", "/var", PERMISSIONS_ANSWER_ALLOW);
+    linked_check("run", "/var", PERMISSIONS_ANSWER_DENY); /* granted by now */
+    linked_check("/k", "/", PERMISSIONS_ANSWER_DENY);
+    show("request /c/d", permissions_linked_request(table, sizeof table, &number, "/c/d", 4, NULL, 0, PERMISSIONS_ANSWER_DENY,
+                                                    text, sizeof text, records, PERMISSIONS_RECORD_WORDS,
+                                                    &asked, &text_size, &records_size));
+    show_records();
+    show("revoke /c/d", permissions_linked_revoke(table, sizeof table, &number, "d", 1, "/c", 2,
+                                                  records, PERMISSIONS_RECORD_WORDS, &records_size));
+    show_records();
+
+    memcpy(before, table, sizeof table);
+    linked_switches(0, PERMISSIONS_RECORD_WORDS - 1);
+    number = PERMISSIONS_MAX_NUMBER;
+    linked_insert(PERMISSIONS_KIND_GRANTED, "/var/run");
+    linked_check("/var/run", "/", PERMISSIONS_ANSWER_DENY); /* no act */
+    puts(memcmp(before, table, sizeof table) == 0 ? "the table is unchanged" : "the table has changed");
+    number = PERMISSIONS_MAX_NUMBER - 1;
+    show("revoke all", permissions_linked_revoke_all(table, sizeof table, &number, records, PERMISSIONS_RECORD_WORDS,
+                                                     &records_size));
+    show_records();
+}
+
+/* A child that gets the first of two items, or both. */
+static void linked_child(void *child, size_t count, size_t space)
+{
+    static const char items[] = "/etc/pointslogs";
+    const uint32_t ends[] = {11, 15}, answers[] = {PERMISSIONS_ANSWER_ALLOW, PERMISSIONS_ANSWER_DENY};
+
+    must("child", permissions_linked_child(table, sizeof table, &number, child, sizeof table, PERMISSIONS_CHILD_LIST,
+                                           items, ends[count - 1], ends, count, answers, count, "/home", 5,
+                                           records, space, &asked, &records_size));
+    printf("asked %u, ", (unsigned)asked);
+    show_records();
+}
+
+static void a_main_with_children(void)
+{
+    static unsigned char child[sizeof table];
+
+    puts("-- a main with children");
+    fresh();
+    number = 0;
+    linked_switches(PERMISSIONS_SWITCH_PROMPT, PERMISSIONS_RECORD_WORDS);
+    linked_child(child, 2, 2 * PERMISSIONS_RECORD_WORDS - 1);
+    linked_child(child, 2, 2 * PERMISSIONS_RECORD_WORDS); /* refused, and the parent keeps its acts with their records */
+    list(table, sizeof table);
+    list(child, sizeof child);
+    linked_child(child, 1, PERMISSIONS_RECORD_WORDS); /* granted by now */
+    list(child, sizeof child);
+}
+
 /* A table is saved as the bytes that it takes, and comes back as the same table. */
 static void saving(void)
 {
@@ -326,6 +428,8 @@ int main(void)
     questions();
     requests();
     children();
+    a_main();
+    a_main_with_children();
     saving();
     a_full_table();
     return 0;

@@ -15,8 +15,9 @@ static ucontext_t outside, inside;
 static unsigned char table[PERMISSIONS_TABLE_BYTES], child[PERMISSIONS_TABLE_BYTES];
 static char text[PERMISSIONS_TEXT_BYTES], relative[PERMISSIONS_MAX_PATH_BYTES], directory[PERMISSIONS_MAX_PATH_BYTES];
 static size_t relative_size;
-static uint32_t number, more, last;
-static size_t size, start;
+static uint32_t number, more, last, records[2 * PERMISSIONS_RECORD_WORDS];
+static size_t size, start, words;
+static uint64_t change;
 static volatile int32_t result;
 
 static void nothing(void) { result = 0; }
@@ -51,6 +52,52 @@ static void inherit(void)
 {
     result = permissions_child(table, sizeof table, child, sizeof child, 0, NULL, 0, NULL, 0, NULL, 0, NULL, 0, &number);
 }
+static void linked_insert(void)
+{
+    result = permissions_linked_insert(table, sizeof table, &change, 1, relative, relative_size, directory, 500, records,
+                                       PERMISSIONS_RECORD_WORDS, &words);
+}
+static void linked_switches(void)
+{
+    result = permissions_linked_switches(table, sizeof table, &change, 16, records, PERMISSIONS_RECORD_WORDS, &words);
+}
+static void linked_check(void)
+{
+    result = permissions_linked_check(table, sizeof table, &change, relative, relative_size, directory, 500, 1, text, sizeof text,
+                                      records, PERMISSIONS_RECORD_WORDS, &number, &size, &words);
+}
+static void linked_check_all(void)
+{
+    result = permissions_linked_check_all(table, sizeof table, &change, 0, text, sizeof text, records, PERMISSIONS_RECORD_WORDS,
+                                          &number, &size, &words);
+}
+static void linked_request(void)
+{
+    result = permissions_linked_request(table, sizeof table, &change, relative, relative_size, directory, 500, 0, text, sizeof text,
+                                        records, PERMISSIONS_RECORD_WORDS, &number, &size, &words);
+}
+static void linked_request_all(void)
+{
+    result = permissions_linked_request_all(table, sizeof table, &change, 1, text, sizeof text, records, PERMISSIONS_RECORD_WORDS,
+                                            &number, &size, &words);
+}
+static void linked_revoke(void)
+{
+    result = permissions_linked_revoke(table, sizeof table, &change, relative, relative_size, directory, 500, records,
+                                       PERMISSIONS_RECORD_WORDS, &words);
+}
+static void linked_revoke_all(void)
+{
+    result = permissions_linked_revoke_all(table, sizeof table, &change, records, PERMISSIONS_RECORD_WORDS, &words);
+}
+static void linked_child(void)
+{
+    uint32_t ends[2], answers[2] = {1, 0};
+    ends[0] = (uint32_t)relative_size / 2;
+    ends[1] = (uint32_t)relative_size;
+    result = permissions_linked_child(table, sizeof table, &change, child, sizeof child, 3, relative, relative_size, ends, 2,
+                                      answers, 2, directory, 500, records, 2 * PERMISSIONS_RECORD_WORDS, &number, &words);
+}
 static void used(void) { result = permissions_used(table, sizeof table); }
 static void head(void) { result = permissions_head(table, sizeof table, &number, &more, &last); }
 static void entry(void) { result = permissions_entry(table, sizeof table, 3, &number, &start, &size); }
@@ -60,7 +107,11 @@ static const struct {
     void (*call)(void);
 } calls[] = {{"fresh", fresh}, {"insert", insert}, {"switches", switches}, {"query", query}, {"query_all", query_all},
              {"check_asks", check_asks}, {"check", check}, {"check_all", check_all}, {"request", request}, {"revoke", revoke},
-             {"child, a list", make_child}, {"child, inherited", inherit}, {"used", used}, {"head", head}, {"entry", entry}};
+             {"child, a list", make_child}, {"child, inherited", inherit}, {"used", used}, {"head", head}, {"entry", entry},
+             {"linked_insert", linked_insert}, {"linked_switches", linked_switches}, {"linked_check", linked_check},
+             {"linked_check_all", linked_check_all}, {"linked_request", linked_request},
+             {"linked_request_all", linked_request_all}, {"linked_revoke", linked_revoke},
+             {"linked_revoke_all", linked_revoke_all}, {"linked_child", linked_child}};
 
 /* The bytes of a fresh stack that a call touches. */
 static size_t depth(void (*call)(void))

@@ -107,15 +107,19 @@ arguments-few code bytes ends responses =
     step-few (knownResponses responses) _ (λ known.
     order-few (areInOrder arg bytes ends responses) _ (λ h. items-few arg bytes ends known (order-fits arg bytes ends responses h))))
 
-step-asked : {A : Type 0} (a : Result A) (f : A → Result Creation) → ((x : A) → askedIn (f x) ≤ maxItems) → askedIn (andThen a f) ≤ maxItems
+pub step-asked : {A : Type 0} (a : Result A) (f : A → Result Creation) → ((x : A) → askedIn (f x) ≤ maxItems) → askedIn (andThen a f) ≤ maxItems
 unfolding andThen
 step-asked (refused cause) f h = unfold askedIn in omega arith
 step-asked (ok x) f h = h x
 
-args-asked : (t : Table) (cwd : List ℕ) (r : Result Arguments) → Few r → askedIn (andThen r (λ args. ok (creation Plain t cwd args))) ≤ maxItems
+args-asked : (numbers : Numbering) (t : Table) (cwd : List ℕ) (r : Result Arguments) → Few r → askedIn (andThen r (λ args. ok (creation numbers t cwd args))) ≤ maxItems
 unfolding andThen askedIn creation Few
-args-asked t cwd (refused cause) h = omega arith
-args-asked t cwd (ok args) h = omega (arith, made-asked Plain t args cwd)
+args-asked numbers t cwd (refused cause) h = omega arith
+args-asked numbers t cwd (ok args) h = omega (arith, made-asked numbers t args cwd)
+
+pub created-asked : (numbers : Numbering) (t : Table) (code : ℕ) (bytes ends responses cwd : List ℕ)
+    → askedIn (andThen (argumentsOf code bytes ends responses) (λ args. ok (creation numbers t cwd args))) ≤ maxItems
+created-asked numbers t code bytes ends responses cwd = args-asked numbers t cwd (argumentsOf code bytes ends responses) (arguments-few code bytes ends responses)
 
 pub asked-few : {m c : List ℕ} {code : ℕ} {bytes ends responses cwd m′ c′ : List ℕ} {r : ChildMade}
     → CreatesChild m c code bytes ends responses cwd m′ c′ r → r .asked ≤ maxItems
@@ -124,4 +128,4 @@ asked-few {m} {c} {code} {bytes} {ends} {responses} {cwd} C =
     rw (C .asked)
     (step-asked (tableIn m) _ (λ t.
     step-asked (freshIn c) _ (λ empty.
-    args-asked t cwd (argumentsOf code bytes ends responses) (arguments-few code bytes ends responses))))
+    created-asked Plain t code bytes ends responses cwd)))

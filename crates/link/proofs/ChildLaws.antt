@@ -1,4 +1,4 @@
--- Laws of the linked child call: the record space of its items, and each way through its checking order.
+-- Laws of the linked child call: the record space of its items, each way through its checking order, and how often it asks.
 use Prim.Native.Nat.{ℕ, zero, suc, _+_, _*_, _/_, _≤_, _<_}
 use mathlib.Core.Path.{_≡_}
 use mathlib.Core.List.{List}
@@ -14,12 +14,14 @@ use Rattle.paths.specs.Copying.{begun}
 use Rattle.table.specs.declared.Numbering.the-variants.{After}
 use Rattle.table.specs.Memory.{tableBytes, tableOf, holds, doActs}
 use Rattle.table.specs.Carrying.{outcomeOf}
+use Rattle.table.specs.Calls.{tableIn, freshIn}
 use Rattle.table.proofs.CallLaws.{no-table, a-table, fresh-short, fresh-long}
 use Rattle.child.specs.declared.ChildMade.{ChildMade}
-use Rattle.child.specs.Arguments.{Arguments, argumentsOf}
+use Rattle.child.specs.Arguments.{maxItems, Arguments, argumentsOf}
 use Rattle.child.specs.Making.{allItems, takeOver}
 use Rattle.child.specs.Calls.{creation, refusalIn, askedIn, actsIn, childAfter}
 use Rattle.child.specs.Steps.{afterItems, Completes}
+use Rattle.child.proofs.AskedLaws.{step-asked, created-asked}
 use Rattle.child.proofs.CreatingLaws.{Ran, acts-are, creates-by}
 use Rattle.records.specs.Records.{recordSpace, numbered, allWords}
 use Rattle.link.specs.declared.ChildSent.{ChildSent}
@@ -118,3 +120,15 @@ child-sends {n} {m} {c} {w} {code} {bytes} {ends} {responses} {cwd} {args} R roo
       child = B .child;
       sends = record { memory = B .parent; number = Z .number; words = from-start (Z .words) .0; count = from-start (Z .words) .1 };
     }
+
+-- ---- how often it asks
+
+pub linked-asked-few : {m : List ℕ} {n : ℕ} {c w : List ℕ} {code : ℕ} {bytes ends responses cwd m′ : List ℕ} {n′ : ℕ} {c′ w′ : List ℕ} {r : ChildSent}
+    → LinkedChild m n c w code bytes ends responses cwd m′ n′ c′ w′ r → r .made .asked ≤ maxItems
+unfolding linkedChild
+linked-asked-few {m} {n} {c} {w} {code} {bytes} {ends} {responses} {cwd} L =
+    rw (L .asked)
+    (step-asked (tableIn m) _ (λ t.
+    step-asked (freshIn c) _ (λ empty.
+    step-asked (recordRoom (length ends) w) _ (λ room.
+    created-asked (After n) t code bytes ends responses cwd))))

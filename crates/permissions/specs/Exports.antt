@@ -21,6 +21,11 @@ use Rattle.calls.specs.declared.Question.{Question}
 use Rattle.calls.specs.Calls.{Asks, Questions, Revokes}
 use Rattle.child.specs.declared.ChildMade.{ChildMade}
 use Rattle.child.specs.Calls.{CreatesChild}
+use Rattle.link.specs.declared.Sent.{Sent}
+use Rattle.link.specs.declared.AskSent.{AskSent}
+use Rattle.link.specs.declared.RevokeSent.{RevokeSent}
+use Rattle.link.specs.declared.ChildSent.{ChildSent}
+use Rattle.link.specs.Linked.{LinkedInserts, LinkedSwitches, LinkedAsks, LinkedRevokes, LinkedChild}
 use Rattle.permissions.specs.Numbers.{
   refusedNumber,
   outcomeNumber,
@@ -126,3 +131,44 @@ pub record ExportedEntry (m : List ℕ) (place kind at size : ℕ) (r : ℤ) : T
   pub kind-is : kind ≡ listedKind (listedIn (tableIn m) (listed m place))
   pub start : at ≡ listedStart (listedIn (tableIn m) (listed m place))
   pub long : size ≡ listedSize (listedIn (tableIn m) (listed m place))
+
+-- ---- linked calls: n and w are the main's number and the record space, n′ and w′ the same after the call, and k words hold records
+
+-- an insert, or switches set
+pub record ExportedSent (Promise : Sent → Type 0) (k : ℕ) (r : ℤ) : Type 0 where
+  pub answered : Sent
+  pub promise : Promise answered
+  pub number : r ≡ outcomeNumber (answered .outcome)
+  pub words : k ≡ answered .words
+
+abbrev pub ExportedLinkedInsert : List ℕ → ℕ → List ℕ → ℕ → List ℕ → List ℕ → List ℕ → ℕ → List ℕ → ℕ → ℤ → Type 0
+ExportedLinkedInsert m n w kind p cwd m′ n′ w′ k r = ExportedSent (LinkedInserts m n w kind p cwd m′ n′ w′) k r
+
+abbrev pub ExportedLinkedSwitches : List ℕ → ℕ → List ℕ → ℕ → List ℕ → ℕ → List ℕ → ℕ → ℤ → Type 0
+ExportedLinkedSwitches m n w v m′ n′ w′ k r = ExportedSent (LinkedSwitches m n w v m′ n′ w′) k r
+
+-- whether the operator was asked, and the text's size
+pub record ExportedLinkedAsk (call : Call) (m : List ℕ) (n : ℕ) (s w : List ℕ) (d : Descriptor) (p cwd : List ℕ) (response : ℕ) (m′ : List ℕ) (n′ : ℕ)
+    (s′ w′ : List ℕ) (told size k : ℕ) (r : ℤ) : Type 0 where
+  pub answered : AskSent
+  pub promise : LinkedAsks call m n s w d p cwd response m′ n′ s′ w′ answered
+  pub number : r ≡ answerNumber (answered .answered .answer)
+  pub asked : told ≡ askedNumber (answered .answered .asked)
+  pub text : size ≡ answered .answered .text
+  pub words : k ≡ answered .words
+
+-- the state afterwards
+pub record ExportedLinkedRevoke (m : List ℕ) (n : ℕ) (w : List ℕ) (d : Descriptor) (p cwd m′ : List ℕ) (n′ : ℕ) (w′ : List ℕ) (k : ℕ) (r : ℤ) : Type 0 where
+  pub answered : RevokeSent
+  pub promise : LinkedRevokes m n w d p cwd m′ n′ w′ answered
+  pub number : r ≡ answerNumber (answered .answer)
+  pub words : k ≡ answered .words
+
+-- how often the operator was asked
+pub record ExportedLinkedChild (m : List ℕ) (n : ℕ) (c w : List ℕ) (code : ℕ) (bytes ends responses cwd m′ : List ℕ) (n′ : ℕ) (c′ w′ : List ℕ)
+    (told k : ℕ) (r : ℤ) : Type 0 where
+  pub answered : ChildSent
+  pub promise : LinkedChild m n c w code bytes ends responses cwd m′ n′ c′ w′ answered
+  pub number : r ≡ outcomeNumber (answered .made .outcome)
+  pub asked : told ≡ answered .made .asked
+  pub words : k ≡ answered .words

@@ -39,6 +39,8 @@ ghost use Rattle.permissions.specs.Exports.{
   ExportedEntry,
 };
 
+pub mod linking;
+
 // ---- numbers
 
 // A refusal as a result.
@@ -48,7 +50,7 @@ fn refused(cause: Refusal) -> i32
     -(refusal_number(cause) as i32)
 }
 
-fn outcome_number(outcome: Outcome) -> i32
+pub(crate) fn outcome_number(outcome: Outcome) -> i32
     ensures { λ r. ⌜ r ≡ outcomeNumber outcome ⌝ }
 {
     match outcome {
@@ -57,7 +59,7 @@ fn outcome_number(outcome: Outcome) -> i32
     }
 }
 
-fn answer_number(answer: Answer) -> i32
+pub(crate) fn answer_number(answer: Answer) -> i32
     ensures { λ r. ⌜ r ≡ answerNumber answer ⌝ }
 {
     match answer {
@@ -66,7 +68,7 @@ fn answer_number(answer: Answer) -> i32
     }
 }
 
-fn asked_number(asked: bool) -> u32
+pub(crate) fn asked_number(asked: bool) -> u32
     ensures { λ r. ⌜ r ≡ askedNumber asked ⌝ }
 {
     if asked {

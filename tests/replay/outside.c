@@ -1,4 +1,4 @@
-/* Linked into replay in place of two calls of the library (the linker's --wrap): each first reads the byte behind the lent
+/* Linked into replay in place of three calls of the library (the linker's --wrap): each first reads the byte behind the lent
  * area that the variable OUTSIDE names, and then makes the call. tests/replay-test expects the program to be stopped there.
  */
 #include <stddef.h>
@@ -53,4 +53,30 @@ int32_t __wrap_permissions_child(void *parent, size_t parent_size, void *child, 
     read_behind("directory", directory, directory_size);
     return __real_permissions_child(parent, parent_size, child, child_size, code, items, items_size, ends, ends_count,
                                     answers, answers_count, directory, directory_size, asked);
+}
+
+int32_t __real_permissions_linked_child(void *parent, size_t parent_size, uint64_t *number, void *child,
+                                        size_t child_size, uint32_t code, const void *items, size_t items_size,
+                                        const uint32_t *ends, size_t ends_count, const uint32_t *answers,
+                                        size_t answers_count, const void *directory, size_t directory_size,
+                                        uint32_t *records, size_t records_space, uint32_t *asked,
+                                        size_t *records_size);
+int32_t __wrap_permissions_linked_child(void *parent, size_t parent_size, uint64_t *number, void *child,
+                                        size_t child_size, uint32_t code, const void *items, size_t items_size,
+                                        const uint32_t *ends, size_t ends_count, const uint32_t *answers,
+                                        size_t answers_count, const void *directory, size_t directory_size,
+                                        uint32_t *records, size_t records_space, uint32_t *asked,
+                                        size_t *records_size);
+
+int32_t __wrap_permissions_linked_child(void *parent, size_t parent_size, uint64_t *number, void *child,
+                                        size_t child_size, uint32_t code, const void *items, size_t items_size,
+                                        const uint32_t *ends, size_t ends_count, const uint32_t *answers,
+                                        size_t answers_count, const void *directory, size_t directory_size,
+                                        uint32_t *records, size_t records_space, uint32_t *asked,
+                                        size_t *records_size)
+{
+    read_behind("records", records, records_space * sizeof *records);
+    return __real_permissions_linked_child(parent, parent_size, number, child, child_size, code, items, items_size, ends,
+                                           ends_count, answers, answers_count, directory, directory_size, records,
+                                           records_space, asked, records_size);
 }

@@ -7,6 +7,7 @@
 #define _DEFAULT_SOURCE /* mmap's MAP_ANONYMOUS, and getline */
 
 #include <errno.h>
+#include <inttypes.h>
 #include <stdbool.h>
 #include <stdio.h>
 #include <stdlib.h>
@@ -201,7 +202,9 @@ static bool is_dash_next(const struct line *line)
 
 struct replay {
     struct area table, child;
-    struct area path, directory, text, items, ends, answers;
+    struct area path, directory, text, items, ends, answers, records;
+    bool is_linked;  /* whether calls are the linked ones */
+    uint64_t number; /* the main's */
 };
 
 static unsigned char *table_of(struct area *area)
@@ -282,6 +285,22 @@ static bool take_items(struct replay *replay, struct line *line, struct bytes *i
     return true;
 }
 
+/* The space that a linked call is lent for its records, and how many words it wrote. A plain call writes none. */
+struct sent {
+    uint32_t *words;
+    size_t space, size;
+};
+
+/* Lends the least space that a call with so many items may have. */
+static struct sent lend_records(struct replay *replay, size_t items)
+{
+    struct sent sent = { NULL, (items > 0 ? items : 1) * PERMISSIONS_RECORD_WORDS, 0 };
+
+    if (replay->is_linked)
+        sent.words = (uint32_t *)(void *)lend(&replay->records, sent.space * sizeof *sent.words);
+    return sent;
+}
+
 /* ---- answer lines ---- */
 
 static void print_escaped(const unsigned char *bytes, size_t size)
@@ -294,6 +313,18 @@ static void print_escaped(const unsigned char *bytes, size_t size)
         else
             printf("%%%02X", (unsigned)bytes[i]);
     }
+}
+
+static void print_sent(const struct sent *sent)
+{
+    size_t i;
+
+    if (sent->size == 0)
+        return;
+    fputs("records", stdout);
+    for (i = 0; i < sent->size; i++)
+        printf(" %08" PRIX32, sent->words[i]);
+    putchar('\n');
 }
 
 static void print_done(int32_t result)
@@ -388,6 +419,7 @@ static bool call_fresh(struct replay *replay, struct line *line)
     if (!is_over(line))
         return false;
     print_done(permissions_fresh(table_of(&replay->table), PERMISSIONS_TABLE_BYTES));
+    replay->number = 0;
     return true;
 }
 
@@ -395,22 +427,36 @@ static bool call_insert(struct replay *replay, struct line *line)
 {
     uint32_t kind;
     struct bytes path, directory;
+    struct sent sent = lend_records(replay, 0);
+    unsigned char *table = table_of(&replay->table);
 
     if (!take_number(line, &kind) || !take_lent(line, &replay->path, &path)
         || !take_lent(line, &replay->directory, &directory) || !is_over(line))
         return false;
-    print_done(permissions_insert(table_of(&replay->table), PERMISSIONS_TABLE_BYTES, kind, path.start, path.size,
-                                  directory.start, directory.size));
+    if (replay->is_linked)
+        print_done(permissions_linked_insert(table, PERMISSIONS_TABLE_BYTES, &replay->number, kind, path.start, path.size,
+                                             directory.start, directory.size, sent.words, sent.space, &sent.size));
+    else
+        print_done(permissions_insert(table, PERMISSIONS_TABLE_BYTES, kind, path.start, path.size, directory.start,
+                                      directory.size));
+    print_sent(&sent);
     return true;
 }
 
 static bool call_switches(struct replay *replay, struct line *line)
 {
     uint32_t switches;
+    struct sent sent = lend_records(replay, 0);
+    unsigned char *table = table_of(&replay->table);
 
     if (!take_number(line, &switches) || !is_over(line))
         return false;
-    print_done(permissions_switches(table_of(&replay->table), PERMISSIONS_TABLE_BYTES, switches));
+    if (replay->is_linked)
+        print_done(permissions_linked_switches(table, PERMISSIONS_TABLE_BYTES, &replay->number, switches, sent.words,
+                                               sent.space, &sent.size));
+    else
+        print_done(permissions_switches(table, PERMISSIONS_TABLE_BYTES, switches));
+    print_sent(&sent);
     return true;
 }
 
@@ -430,58 +476,105 @@ static bool call_query(struct replay *replay, struct line *line)
     return true;
 }
 
-/* A check or request of a path, and one with no path. */
-typedef int32_t asking(void *memory, size_t memory_size, const void *path, size_t path_size, const void *directory,
+/* A check or a request: of a path and with no path, plain and linked, and how its answer is printed. */
+struct asking {
+    int32_t (*of_path)(void *memory, size_t memory_size, const void *path, size_t path_size, const void *directory,
                        size_t directory_size, uint32_t answer, void *text, size_t text_space, uint32_t *asked,
                        size_t *text_size);
-typedef int32_t asking_all(void *memory, size_t memory_size, uint32_t answer, void *text, size_t text_space,
-                           uint32_t *asked, size_t *text_size);
+    int32_t (*of_all)(void *memory, size_t memory_size, uint32_t answer, void *text, size_t text_space, uint32_t *asked,
+                      size_t *text_size);
+    int32_t (*linked_of_path)(void *memory, size_t memory_size, uint64_t *number, const void *path, size_t path_size,
+                              const void *directory, size_t directory_size, uint32_t answer, void *text,
+                              size_t text_space, uint32_t *records, size_t records_space, uint32_t *asked,
+                              size_t *text_size, size_t *records_size);
+    int32_t (*linked_of_all)(void *memory, size_t memory_size, uint64_t *number, uint32_t answer, void *text,
+                             size_t text_space, uint32_t *records, size_t records_space, uint32_t *asked,
+                             size_t *text_size, size_t *records_size);
+    void (*print)(int32_t result, const struct told *told);
+};
 
-static bool ask(struct replay *replay, struct line *line, asking *of_path, asking_all *of_all,
-                void (*print)(int32_t, const struct told *))
+static const struct asking checking = { permissions_check, permissions_check_all, permissions_linked_check,
+                                        permissions_linked_check_all, print_check };
+static const struct asking requesting = { permissions_request, permissions_request_all, permissions_linked_request,
+                                          permissions_linked_request_all, print_request };
+
+/* Makes the call with what is given; its result. */
+static int32_t ask_with(const struct asking *asking, struct replay *replay, const struct given *given, uint32_t answer,
+                        struct told *told, struct sent *sent)
+{
+    unsigned char *table = table_of(&replay->table);
+    unsigned char *text = lend(&replay->text, PERMISSIONS_TEXT_BYTES);
+    const struct bytes *path = &given->path, *directory = &given->directory;
+
+    told->text = text;
+    if (replay->is_linked && given->has_path)
+        return asking->linked_of_path(table, PERMISSIONS_TABLE_BYTES, &replay->number, path->start, path->size,
+                                      directory->start, directory->size, answer, text, PERMISSIONS_TEXT_BYTES,
+                                      sent->words, sent->space, &told->asked, &told->text_size, &sent->size);
+    if (replay->is_linked)
+        return asking->linked_of_all(table, PERMISSIONS_TABLE_BYTES, &replay->number, answer, text,
+                                     PERMISSIONS_TEXT_BYTES, sent->words, sent->space, &told->asked, &told->text_size,
+                                     &sent->size);
+    if (given->has_path)
+        return asking->of_path(table, PERMISSIONS_TABLE_BYTES, path->start, path->size, directory->start,
+                               directory->size, answer, text, PERMISSIONS_TEXT_BYTES, &told->asked, &told->text_size);
+    return asking->of_all(table, PERMISSIONS_TABLE_BYTES, answer, text, PERMISSIONS_TEXT_BYTES, &told->asked,
+                          &told->text_size);
+}
+
+static bool ask(const struct asking *asking, struct replay *replay, struct line *line)
 {
     struct given given;
     struct told told;
+    struct sent sent = lend_records(replay, 0);
     uint32_t answer;
     int32_t result;
-    unsigned char *table = table_of(&replay->table);
-    unsigned char *text = lend(&replay->text, PERMISSIONS_TEXT_BYTES);
 
     if (!take_given(replay, line, &given) || !take_number(line, &answer) || !is_over(line))
         return false;
-    if (given.has_path)
-        result = of_path(table, PERMISSIONS_TABLE_BYTES, given.path.start, given.path.size, given.directory.start,
-                         given.directory.size, answer, text, PERMISSIONS_TEXT_BYTES, &told.asked, &told.text_size);
-    else
-        result = of_all(table, PERMISSIONS_TABLE_BYTES, answer, text, PERMISSIONS_TEXT_BYTES, &told.asked,
-                        &told.text_size);
-    told.text = text;
-    print(result, &told);
+    result = ask_with(asking, replay, &given, answer, &told, &sent);
+    asking->print(result, &told);
+    print_sent(&sent);
     return true;
 }
 
 static bool call_check(struct replay *replay, struct line *line)
 {
-    return ask(replay, line, permissions_check, permissions_check_all, print_check);
+    return ask(&checking, replay, line);
 }
 
 static bool call_request(struct replay *replay, struct line *line)
 {
-    return ask(replay, line, permissions_request, permissions_request_all, print_request);
+    return ask(&requesting, replay, line);
+}
+
+/* Makes the call with what is given; its result. */
+static int32_t revoke_with(struct replay *replay, const struct given *given, struct sent *sent)
+{
+    unsigned char *table = table_of(&replay->table);
+    const struct bytes *path = &given->path, *directory = &given->directory;
+
+    if (replay->is_linked && given->has_path)
+        return permissions_linked_revoke(table, PERMISSIONS_TABLE_BYTES, &replay->number, path->start, path->size,
+                                         directory->start, directory->size, sent->words, sent->space, &sent->size);
+    if (replay->is_linked)
+        return permissions_linked_revoke_all(table, PERMISSIONS_TABLE_BYTES, &replay->number, sent->words, sent->space,
+                                             &sent->size);
+    if (given->has_path)
+        return permissions_revoke(table, PERMISSIONS_TABLE_BYTES, path->start, path->size, directory->start,
+                                  directory->size);
+    return permissions_revoke_all(table, PERMISSIONS_TABLE_BYTES);
 }
 
 static bool call_revoke(struct replay *replay, struct line *line)
 {
     struct given given;
-    unsigned char *table = table_of(&replay->table);
+    struct sent sent = lend_records(replay, 0);
 
     if (!take_given(replay, line, &given) || !is_over(line))
         return false;
-    if (given.has_path)
-        print_state(permissions_revoke(table, PERMISSIONS_TABLE_BYTES, given.path.start, given.path.size,
-                                       given.directory.start, given.directory.size));
-    else
-        print_state(permissions_revoke_all(table, PERMISSIONS_TABLE_BYTES));
+    print_state(revoke_with(replay, &given, &sent));
+    print_sent(&sent);
     return true;
 }
 
@@ -491,17 +584,49 @@ static bool call_child(struct replay *replay, struct line *line)
     int32_t result;
     struct bytes directory, items;
     struct numbers answers, ends;
+    struct sent sent;
+    unsigned char *table = table_of(&replay->table), *child = table_of(&replay->child);
 
     if (!take_number(line, &code) || !take_lent(line, &replay->directory, &directory)
         || !take_answers(replay, line, &answers) || !take_items(replay, line, &items, &ends) || !is_over(line))
         return false;
-    result = permissions_child(table_of(&replay->table), PERMISSIONS_TABLE_BYTES, table_of(&replay->child),
-                               PERMISSIONS_TABLE_BYTES, code, items.start, items.size, ends.start, ends.count,
-                               answers.start, answers.count, directory.start, directory.size, &asked);
+    sent = lend_records(replay, ends.count);
+    if (replay->is_linked)
+        result = permissions_linked_child(table, PERMISSIONS_TABLE_BYTES, &replay->number, child,
+                                          PERMISSIONS_TABLE_BYTES, code, items.start, items.size, ends.start, ends.count,
+                                          answers.start, answers.count, directory.start, directory.size, sent.words,
+                                          sent.space, &asked, &sent.size);
+    else
+        result = permissions_child(table, PERMISSIONS_TABLE_BYTES, child, PERMISSIONS_TABLE_BYTES, code, items.start,
+                                   items.size, ends.start, ends.count, answers.start, answers.count, directory.start,
+                                   directory.size, &asked);
     if (result < 0)
         printf("refused %d asked %u\n", (int)-result, (unsigned)asked);
     else
         printf("child asked %u\n", (unsigned)asked);
+    print_sent(&sent);
+    return true;
+}
+
+static bool call_linked(struct replay *replay, struct line *line)
+{
+    uint32_t is_linked;
+
+    if (!take_number(line, &is_linked) || is_linked > 1 || !is_over(line))
+        return false;
+    replay->is_linked = is_linked == 1;
+    puts("ok");
+    return true;
+}
+
+static bool call_number(struct replay *replay, struct line *line)
+{
+    uint32_t number;
+
+    if (!take_number(line, &number) || !is_over(line))
+        return false;
+    replay->number = number;
+    puts("ok");
     return true;
 }
 
@@ -533,6 +658,8 @@ static const struct call {
     { "request", call_request },
     { "revoke", call_revoke },
     { "child", call_child },
+    { "linked", call_linked },
+    { "number", call_number },
     { "list", call_list },
     { "childlist", call_childlist },
 };

@@ -1,0 +1,9 @@
+pub mod RecordableLaws
+pub mod CallLaws
+pub mod MainLaws
+pub mod SequenceLaws
+pub mod StandbyLaws
+pub mod Handover
+pub mod StepLaws
+pub mod Witness
+pub mod Wrong

@@ -1,0 +1,339 @@
+-- The run of `specs/Witness.antt`, from any fresh memory: what each call decides on the table that it meets computes.
+use Prim.Native.Nat.{ℕ, _*_, _<_}
+use mathlib.Core.Path.{_≡_, refl}
+use mathlib.Core.List.{List, [], _∷_, List·Memᴰ, List·Memᴰ·head, List·Memᴰ·tail}
+use mathlib.Core.Option.{some}
+use mathlib.Core.Bool.{true, false}
+use native.Mathlib.Omega.{arith}
+use lib.ListN.{length, take}
+use borrow.Author.Tests.{le-ltb}
+use Rattle.refusals.specs.declared.Refusal.the-variants.{NoSpace, EmptyPath, Escalation}
+use Rattle.refusals.specs.Refusals.{refused, ok, firstCause, andThen, unless, causeOf}
+use Rattle.paths.specs.declared.Descriptor.the-variants.{Path}
+use Rattle.paths.specs.Components.{Bytes, slash, same, grown, parted, pieces, withoutEmpty, components, slashed, spell}
+use Rattle.paths.specs.Resolving.{isAbsolute, join, entered, enterAll, normalize, resolve, isResolved, isBadDirectory, pathConditions}
+use Rattle.paths.specs.Relations.{leads, isPrefix, numberOrder, orElse, inTurn, pathOrder}
+use Rattle.paths.specs.Giving.{isPath, resolved, queryOf, given}
+use Rattle.paths.proofs.ByteLaws.{bytes-none, bytes-cons, bytes-append}
+use Rattle.table.specs.declared.Kind.the-variants.{G, P}
+use Rattle.table.specs.declared.Outcome.the-variants as outcome
+use Rattle.table.specs.Entries.{kindOf, knownKind, samePath, strictlyExtends, compareAlike, grantedOrder, compare}
+use Rattle.table.specs.Placing.{isAfter, searchFrom, search, placeBy, place, placedAt}
+use Rattle.table.specs.Tables.{fresh, has, setBit, marked, any, pathBytes, isEntry}
+use Rattle.table.specs.Acts.{
+  insert,
+  setSwitches,
+  revoke,
+  insertedBy,
+  inserted,
+  adds,
+  wouldAdd,
+  hasRoom,
+  overflows,
+  keptUnless,
+  without,
+  revokedBy,
+  applyAct,
+  actOverflows,
+  isAct,
+  applyActs,
+}
+use Rattle.table.specs.Memory.{tableBytes}
+use Rattle.table.specs.Carrying.{usedUp, past, carryCause, actsOf, outcomeOf}
+use Rattle.table.specs.Calls.{knownSwitches, carried}
+use Rattle.table.specs.Calls as table-calls
+use Rattle.table.proofs.CallLaws.{fresh-long}
+use Rattle.walk.specs.declared.PermissionState.the-variants.{Granted, Prompt, Denied}
+use Rattle.walk.specs.declared.Answer.the-variants as answer
+use Rattle.walk.specs.Walk.{
+  modeOf,
+  knownMode,
+  matchesKind,
+  matches,
+  firstMatch,
+  isFlag,
+  isFlagBelow,
+  isPartial,
+  allowed,
+  decidedBy,
+  isDeniedMode,
+  isDenied,
+  withoutMatch,
+  byMatch,
+  queryDesc,
+  isAllowAll,
+}
+use Rattle.walk.specs.Calls.{queryCall, answerOf, queryAnswer}
+use Rattle.walk.specs.Cases.{bytes, entry}
+use Rattle.calls.specs.declared.Call.the-variants.{Check, Request}
+use Rattle.calls.specs.Decisions.{
+  responseOf,
+  knownResponse,
+  grantAct,
+  denyAct,
+  answerAct,
+  passes,
+  stateBy,
+  asks,
+  checkMode,
+  checkBy,
+  checkDesc,
+  requestBy,
+  requestDesc,
+  decide,
+}
+use Rattle.calls.specs.Calls.{carriedOut, settled, textBytes, textSpace, revokeAct, revokeDesc}
+use Rattle.calls.specs.Calls as ask-calls
+use Rattle.child.specs.Arguments.{
+  argOf,
+  knownArg,
+  knownResponses,
+  listItems,
+  itemsOf,
+  closeAt,
+  responsesDue,
+  itemsFit,
+  areInOrder,
+  argumentsOf,
+}
+use Rattle.child.specs.Making.{
+  onward,
+  grantedBy,
+  countOf,
+  passedOn,
+  checked,
+  itemBy,
+  itemStep,
+  allItems,
+  firstChild,
+  completed,
+  createChild,
+}
+use Rattle.child.specs.Calls.{creation, refusalIn}
+use Rattle.child.specs.Calls as child-calls
+use Rattle.records.specs.Records.{
+  recordSpace,
+  actNumber,
+  pathWords,
+  pathPart,
+  actPart,
+  changeWords,
+  numbered,
+  allWords,
+  isLength,
+  isSwitches,
+  isPathWord,
+  withBytes,
+  bytesFrom,
+  ifResolved,
+  readPath,
+  withPath,
+  readSwitches,
+  readAct,
+  withNumber,
+  readFirst,
+  endedBy,
+  ended,
+  readChange,
+}
+use Rattle.link.specs.Linked.{atLeastOne, recordRoom, linkedSwitches, linkedInsert, linkedAsk, linkedRevoke, linkedChild}
+use Rattle.link.proofs.LinkedLaws.{a-room}
+use Rattle.link.proofs.ChildLaws.{room-long}
+use Rattle.standby.specs.Arriving.{wellFormed, higher, applied, passedBy, taken, arrival, answerIn, actsIn, numbersIn}
+use Rattle.handover.specs.Handover.{recordsOf, records}
+use Rattle.handover.specs.Witness.{creating, Steps, calls, kept, acts, recordOf, came, answers, Lent, Witness}
+use Rattle.handover.proofs.StepLaws.{
+  insert-steps,
+  switches-steps,
+  ask-steps,
+  revoke-steps,
+  child-steps,
+  query-steps,
+  allFit,
+  table-in,
+  Run,
+  run-fresh,
+  run-then,
+  Followed,
+  followed-fresh,
+  followed-then,
+  spaceOf,
+  length-space,
+  freshMemory,
+  is-fresh,
+}
+
+-- ---- what the calls are handed
+
+-- the working directory
+root : List ℕ
+root = slash ∷ []
+
+root-bytes : Bytes root
+unfolding root
+root-bytes = bytes-cons (omega arith) bytes-none
+
+letter : {b : ℕ} → b < 256 → Bytes (slash ∷ b ∷ [])
+letter h = bytes-cons (omega arith) (bytes-cons h bytes-none)
+
+-- ---- the run
+
+-- after k acts and j calls
+abbrev At : ℕ → ℕ → Type 0
+At k j = Run (take k acts) (take j calls)
+
+-- after j arrivals, with the numbers n and h
+abbrev Came : ℕ → ℕ → ℕ → Type 0
+Came j n h = Followed taken acts (take j came) (take j answers) (take n acts) (record { n = n; h = h })
+
+module _ (L : Lent) where
+  abbrev w : List ℕ
+  w = L .words
+
+  room : recordRoom 1 w ≡ ok w
+  room = a-room w (omega (arith, L .wordRoom))
+
+  room₂ : recordRoom 2 w ≡ ok w
+  unfolding atLeastOne
+  room₂ = room-long 2 w (le-ltb (length w) (recordSpace * 2) (L .wordRoom))
+
+  text : textSpace (L .text) ≡ ok (L .text)
+  unfolding textSpace firstCause unless
+  text = rw (le-ltb (length (L .text)) textBytes (L .textRoom))
+
+  pub witness : Witness
+  unfolding bytes entry root firstCause andThen unless causeOf
+      same grown parted pieces withoutEmpty components slashed spell
+      isAbsolute join entered enterAll normalize resolve isResolved isBadDirectory pathConditions
+      leads isPrefix numberOrder orElse inTurn pathOrder isPath resolved queryOf given
+      kindOf knownKind samePath strictlyExtends compareAlike grantedOrder compare
+      isAfter searchFrom search placeBy place placedAt
+      has setBit marked any pathBytes isEntry
+      insertedBy inserted adds wouldAdd hasRoom overflows keptUnless without revokedBy applyAct actOverflows isAct applyActs
+      usedUp past carryCause actsOf outcomeOf knownSwitches carried table-calls.actsIn
+      modeOf knownMode matchesKind matches firstMatch isFlag isFlagBelow isPartial allowed decidedBy isDeniedMode isDenied withoutMatch byMatch queryDesc
+      isAllowAll queryCall answerOf queryAnswer
+      responseOf knownResponse grantAct denyAct answerAct passes stateBy asks checkMode checkBy checkDesc requestBy requestDesc decide
+      carriedOut ask-calls.answerIn ask-calls.actsIn settled textSpace revokeAct revokeDesc
+      argOf knownArg knownResponses listItems itemsOf closeAt responsesDue itemsFit areInOrder argumentsOf
+      onward grantedBy countOf passedOn checked itemBy itemStep allItems firstChild completed createChild creation refusalIn child-calls.actsIn
+      actNumber pathWords pathPart actPart changeWords numbered allWords recordsOf
+      isLength isSwitches isPathWord withBytes bytesFrom ifResolved readPath withPath readSwitches readAct withNumber readFirst endedBy ended readChange
+      linkedInsert linkedSwitches linkedAsk linkedRevoke linkedChild
+      wellFormed higher applied passedBy taken arrival answerIn actsIn numbersIn
+      allFit
+  witness = record {
+    main = whole .main;
+    run = whole .calls;
+    made = whole .said;
+    parent = before-child .main;
+    before = before-child .calls;
+    child = refused-child before-child;
+    wrote = rw (before-child .number);
+    among = refl;
+    standby = record { memory = followed .memory; numbers = record { n = 2; h = 4 } };
+    arrivals = followed .arrivals;
+    n = refl;
+    h = refl;
+  }
+    where
+      first-insert : At 0 0 → At 1 1
+      first-insert R =
+          run-then R
+          (insert-steps _ w 0 (bytes "/a") root (letter (omega arith)) root-bytes (ok (insert (entry G "/a"))) (rw (R .number, table-in (R .stands), room)))
+          refl
+
+      empty-insert : At 1 1 → At 1 2
+      empty-insert R = run-then R (insert-steps _ w 1 [] root bytes-none root-bytes (refused EmptyPath) (rw (table-in (R .stands), room))) refl
+
+      set-switches : At 1 2 → At 2 3
+      set-switches R = run-then R (switches-steps _ w 16 (ok (setSwitches 16)) (rw (R .number, table-in (R .stands), room))) refl
+
+      short-check : At 2 3 → At 2 4
+      short-check R =
+          run-then R
+          (ask-steps _ w Check [] Path (bytes "/b") root 0 (letter (omega arith)) root-bytes (refused NoSpace) (rw (table-in (R .stands))))
+          refl
+
+      denied-check : At 2 4 → At 3 5
+      denied-check R =
+          run-then R
+          (ask-steps _ w Check (L .text) Path (bytes "/b") root 0 (letter (omega arith)) root-bytes
+          (ok (record { state = Denied; asked = true; writes = true; act = some (insert (entry P "/b")) }))
+          (rw (R .number, table-in (R .stands), text, room)))
+          refl
+
+      request-again : At 3 5 → At 4 6
+      request-again R =
+          run-then R
+          (ask-steps _ w Request (L .text) Path (bytes "/a") root 0 (letter (omega arith)) root-bytes
+          (ok (record { state = Granted; asked = false; writes = false; act = some (insert (entry G "/a")) }))
+          (rw (R .number, table-in (R .stands), text, room)))
+          refl
+
+      revoke-first : At 4 6 → At 5 7
+      revoke-first R =
+          run-then R
+          (revoke-steps _ w Path (bytes "/a") root (letter (omega arith)) root-bytes
+          (ok (record { state = Prompt; asked = false; writes = false; act = some (revoke (bytes "/a")) }))
+          (rw (R .number, table-in (R .stands), room)))
+          refl
+
+      refused-child : (R : At 5 7) → Steps (R .main) kept (creating 3 (bytes "/c/d") (2 ∷ 4 ∷ []) (1 ∷ 0 ∷ []) (outcome.Refused Escalation))
+      refused-child R =
+          child-steps _ w (L .child) 3 (bytes "/c/d") (2 ∷ 4 ∷ []) (1 ∷ 0 ∷ []) root
+          (bytes-append (bytes "/c") (bytes "/d") (letter (omega arith)) (letter (omega arith)))
+          root-bytes
+          (ok (record { first = fresh; made = record { acts = kept; grants = insert (entry G "/c") ∷ []; asked = 2; refused = some Escalation } }))
+          (rw (R .number, table-in (R .stands), fresh-long (L .child) (L .childRoom), room₂))
+
+      last-query : At 7 8 → At 7 9
+      last-query R = run-then R (query-steps _ 1 Path (bytes "/c") root (answer.State Granted) (rw (table-in (R .stands)))) refl
+
+      before-child : At 5 7
+      before-child = revoke-first (request-again (denied-check (short-check (set-switches (empty-insert (first-insert (run-fresh (L .fresh))))))))
+
+      whole : At 7 9
+      whole = last-query (run-then before-child (refused-child before-child) refl)
+
+      first : List·Memᴰ (recordOf 1) (records acts)
+      first = List·Memᴰ·head refl
+
+      second : List·Memᴰ (recordOf 2) (records acts)
+      second = List·Memᴰ·tail (List·Memᴰ·head refl)
+
+      fourth : List·Memᴰ (recordOf 4) (records acts)
+      fourth = List·Memᴰ·tail (List·Memᴰ·tail (List·Memᴰ·tail (List·Memᴰ·head refl)))
+
+      two-early : Came 0 0 0 → Came 1 0 2
+      two-early F = followed-then taken F (recordOf 2) second refl
+
+      one-applied : Came 1 0 2 → Came 2 1 2
+      one-applied F = followed-then taken F (recordOf 1) first refl
+
+      one-repeated : Came 2 1 2 → Came 3 1 2
+      one-repeated F = followed-then taken F (recordOf 1) first refl
+
+      two-applied : Came 3 1 2 → Came 4 2 2
+      two-applied F = followed-then taken F (recordOf 2) second refl
+
+      four-early : Came 4 2 2 → Came 5 2 4
+      four-early F = followed-then taken F (recordOf 4) fourth refl
+
+      followed : Came 5 2 4
+      followed = four-early (two-applied (one-repeated (one-applied (two-early (followed-fresh (L .fresh))))))
+
+lent : Lent
+lent = record {
+  memory = freshMemory;
+  text = spaceOf textBytes;
+  words = spaceOf (recordSpace * 2);
+  child = spaceOf tableBytes;
+  fresh = is-fresh;
+  textRoom = omega (arith, length-space textBytes);
+  wordRoom = omega (arith, length-space (recordSpace * 2));
+  childRoom = omega (arith, length-space tableBytes);
+}
+
+pub not-empty : Witness
+not-empty = witness lent

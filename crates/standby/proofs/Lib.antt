@@ -1,0 +1,3 @@
+pub mod ArrivingLaws
+pub mod KeepLaws
+pub mod OwingLaws

@@ -1,0 +1,3 @@
+pub mod Arriving
+pub mod Owing
+pub mod Steps

@@ -14,13 +14,13 @@
  * an area that is written must overlap no other one of the same call. Contents
  * may be anything. A lent number (uint32_t *asked, size_t *text_size) must not be
  * NULL. Those that take a result are written by every call, by a refused one too:
- * 0 there, but for the counts of a child call. A main's change number (uint64_t
- * *number, see the link) is state, as a table is, and takes no result.
+ * 0 there, but for the counts of a child call. The numbers of the link (uint64_t
+ * *number, *last, *highest) are state, as a table is, and take no result.
  *
  * Results. A negative result -n is refusal n (enum permissions_refusal). Each
  * refusal comes in exactly its condition, when the earlier ones that apply do not
- * hold. A refused call changes no byte of any area and no change number, but for
- * what the child calls name. 0 from a check means that the path may be read, and
+ * hold. A refused call changes no byte of any area and no number of the link, but
+ * for what the child calls name. 0 from a check means that the path may be read, and
  * no other result does: `if (permissions_check(..) != 0) deny();` is right and
  * complete.
  *
@@ -79,7 +79,7 @@ extern "C" {
 #define PERMISSIONS_MAX_NUMBER 16777215u      /* of a change */
 
 /* The stack that a call takes at most. */
-#define PERMISSIONS_STACK_BYTES 4096u
+#define PERMISSIONS_STACK_BYTES 5120u
 
 /* Kinds of an entry. */
 enum permissions_kind {
@@ -137,10 +137,18 @@ enum permissions_child_code {
     PERMISSIONS_CHILD_LIST = 3         /* the items, if the parent passes each */
 };
 
-/* Refusals, as results. 9 is for linked calls alone, and 11 for records that arrive, for which there is no call here. */
+/* Answers of an arrival. */
+enum permissions_arrival {
+    PERMISSIONS_ARRIVAL_APPLIED = 0, /* the change was the next one, and is done */
+    PERMISSIONS_ARRIVAL_REPEAT = 1,  /* it had been done before */
+    PERMISSIONS_ARRIVAL_EARLY = 2    /* one before it is missing; nothing is done, and it must come again */
+};
+
+/* Refusals, as results. 9 is for linked calls alone, and 11 for records that arrive. */
 enum permissions_refusal {
     PERMISSIONS_REFUSAL_NO_TABLE = -1,          /* the memory is too small for a table, or holds none; memory about to get a
-                                                   fresh or child table need only be large enough */
+                                                   fresh or child table need only be large enough; or a standby's last
+                                                   number is above its highest */
     PERMISSIONS_REFUSAL_NO_SPACE = -2,          /* the text space is under 1,041 bytes, or the record space under 344 words for
                                                    each child item (at least 344) */
     PERMISSIONS_REFUSAL_UNKNOWN = -3,           /* an answer, mode, kind or child code is unknown, switches are above 31, or a
@@ -334,6 +342,47 @@ int32_t permissions_child(void *parent, size_t parent_size,
                           const void *directory, size_t directory_size,
                           uint32_t *asked);
 
+/* ---- the link: the standby's half ----
+ *
+ * A standby keeps a table of its own and two numbers, all lent with each arrival
+ * and kept together:
+ *
+ *   last      the number of the last change that was applied: n
+ *   highest   the highest number in any record that was not refused: h
+ *
+ * It begins with a fresh table and both numbers 0, and hands every record that
+ * comes over the link to permissions_arrive, in whatever order, as often as it
+ * comes. Records may be lost, repeated and reordered: at any time the table is the
+ * main's table after change n, and n is the greatest number for which changes 1 to
+ * n came in that sequence, with anything between. (That is proved of every list of
+ * the main's calls and every list of arrivals, as long as the link alters no
+ * record and invents none: a checksum on the wire is the program's.)
+ *
+ *     static uint64_t last, highest;
+ *     result = permissions_arrive(table, sizeof table, &last, &highest, record, record_size);
+ *     if (result == PERMISSIONS_ARRIVAL_EARLY)
+ *         ask_main_for(last + 1);
+ *
+ * To take over, make the calls on this table.
+ */
+
+/* Takes one record.
+ *   memory, memory_size   the standby's table
+ *   last, highest         the standby's numbers; a refused arrival leaves them
+ *   record, record_size   the words of one record, all of them and no more; the size counts words
+ * Result: enum permissions_arrival; refusals 1, 11, and 8 where the record is the next one. */
+PERMISSIONS_MUST_USE
+int32_t permissions_arrive(void *memory, size_t memory_size, uint64_t *last, uint64_t *highest,
+                           const uint32_t *record, size_t record_size);
+
+/* How many changes the standby has heard of and not applied.
+ *   last, highest   the standby's numbers
+ *   owed            0 exactly if highest equals last; else at least 1 and at most highest - last, and which of these it is
+ *                   is not said: take it as "some"
+ * Result: 0; refusal 1 where last is above highest, and then owed is 0. */
+PERMISSIONS_MUST_USE
+int32_t permissions_owed(uint64_t last, uint64_t highest, uint64_t *owed);
+
 /* ---- reading a table ---- */
 
 /* How many bytes the table takes, from the memory's start: what to save. Two tables
@@ -516,6 +565,17 @@ static inline const char *permissions_kind_name(uint32_t kind)
     case PERMISSIONS_KIND_FLAG_DENIED: return "flag-denied";
     case PERMISSIONS_KIND_PROMPT_DENIED: return "prompt-denied";
     case PERMISSIONS_KIND_FLAG_IGNORED: return "flag-ignored";
+    default: return "unknown";
+    }
+}
+
+/* The name of an arrival's answer, or "unknown". */
+static inline const char *permissions_arrival_name(int32_t result)
+{
+    switch (result) {
+    case PERMISSIONS_ARRIVAL_APPLIED: return "Applied";
+    case PERMISSIONS_ARRIVAL_REPEAT: return "Repeat";
+    case PERMISSIONS_ARRIVAL_EARLY: return "Early";
     default: return "unknown";
     }
 }

@@ -377,6 +377,42 @@ static void a_main_with_children(void)
     list(child, sizeof child);
 }
 
+/* One arrival, with the standby's numbers and what is owed after it. */
+static void arrive(const uint32_t *record, size_t size, uint64_t *last, uint64_t *highest)
+{
+    int32_t result = permissions_arrive(table, sizeof table, last, highest, record, size);
+    uint64_t owed;
+
+    if (result < 0)
+        printf("refused %d, %s", (int)-result, permissions_refusal_name(result));
+    else
+        printf("%s", permissions_arrival_name(result));
+    printf(": last %u, highest %u, ", (unsigned)*last, (unsigned)*highest);
+    if (permissions_owed(*last, *highest, &owed) == 0)
+        puts(owed == 0 ? "nothing owed" : "some owed");
+    else
+        puts("owed refused");
+}
+
+/* Two records, the second first and the first twice. */
+static void a_standby(void)
+{
+    static const uint32_t one[] = {0x11000001, 0x20000002, 0x302F6300}, two[] = {0x12000002, 0x20000002, 0x302F7A00};
+    uint64_t last = 0, highest = 0;
+
+    puts("-- a standby");
+    fresh();
+    arrive(two, 3, &last, &highest);
+    arrive(one, 3, &last, &highest);
+    arrive(one, 3, &last, &highest);
+    arrive(two, 3, &last, &highest);
+    list(table, sizeof table);
+    arrive(two, 2, &last, &highest);
+    arrive(NULL, 0, &last, &highest);
+    last = 3;
+    arrive(one, 3, &last, &highest);
+}
+
 /* A table is saved as the bytes that it takes, and comes back as the same table. */
 static void saving(void)
 {
@@ -430,6 +466,7 @@ int main(void)
     children();
     a_main();
     a_main_with_children();
+    a_standby();
     saving();
     a_full_table();
     return 0;

@@ -17,7 +17,7 @@ static char text[PERMISSIONS_TEXT_BYTES], relative[PERMISSIONS_MAX_PATH_BYTES], 
 static size_t relative_size;
 static uint32_t number, more, last, records[2 * PERMISSIONS_RECORD_WORDS];
 static size_t size, start, words;
-static uint64_t change;
+static uint64_t change, applied, highest, owed;
 static volatile int32_t result;
 
 static void nothing(void) { result = 0; }
@@ -98,6 +98,8 @@ static void linked_child(void)
     result = permissions_linked_child(table, sizeof table, &change, child, sizeof child, 3, relative, relative_size, ends, 2,
                                       answers, 2, directory, 500, records, 2 * PERMISSIONS_RECORD_WORDS, &number, &words);
 }
+static void arrive(void) { result = permissions_arrive(child, sizeof child, &applied, &highest, records, words); }
+static void say_owed(void) { result = permissions_owed(applied, highest, &owed); }
 static void used(void) { result = permissions_used(table, sizeof table); }
 static void head(void) { result = permissions_head(table, sizeof table, &number, &more, &last); }
 static void entry(void) { result = permissions_entry(table, sizeof table, 3, &number, &start, &size); }
@@ -111,7 +113,7 @@ static const struct {
              {"linked_insert", linked_insert}, {"linked_switches", linked_switches}, {"linked_check", linked_check},
              {"linked_check_all", linked_check_all}, {"linked_request", linked_request},
              {"linked_request_all", linked_request_all}, {"linked_revoke", linked_revoke},
-             {"linked_revoke_all", linked_revoke_all}, {"linked_child", linked_child}};
+             {"linked_revoke_all", linked_revoke_all}, {"linked_child", linked_child}, {"arrive", arrive}, {"owed", say_owed}};
 
 /* The bytes of a fresh stack that a call touches. */
 static size_t depth(void (*call)(void))
@@ -148,6 +150,12 @@ static void fill(void)
     relative_size = 500;
     for (i = 7; i < (int)relative_size; i += 9)
         relative[i] = '/';
+    /* change 1, an insert of a long path, for a standby with the same entries */
+    memcpy(child, table, sizeof child);
+    change = applied = highest = 0;
+    result = permissions_linked_insert(table, sizeof table, &change, PERMISSIONS_KIND_FLAG_DENIED, relative, relative_size,
+                                       directory, 500, records, PERMISSIONS_RECORD_WORDS, &words);
+    memcpy(table, child, sizeof table);
 }
 
 int main(void)

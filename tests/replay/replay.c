@@ -201,10 +201,11 @@ static bool is_dash_next(const struct line *line)
 /* ---- what the calls work on ---- */
 
 struct replay {
-    struct area table, child;
-    struct area path, directory, text, items, ends, answers, records;
-    bool is_linked;  /* whether calls are the linked ones */
-    uint64_t number; /* the main's */
+    struct area table, child, standby;
+    struct area path, directory, text, items, ends, answers, records, record;
+    bool is_linked;         /* whether calls are the linked ones */
+    uint64_t number;        /* the main's */
+    uint64_t last, highest; /* the standby's */
 };
 
 static unsigned char *table_of(struct area *area)
@@ -283,6 +284,39 @@ static bool take_items(struct replay *replay, struct line *line, struct bytes *i
     if (items->size > 0)
         memcpy(items->start, together, items->size);
     return true;
+}
+
+/* Takes a word of eight hexadecimal digits. */
+static bool take_hexadecimal(struct line *line, uint32_t *number)
+{
+    struct bytes word;
+    size_t i;
+
+    if (!take_word(line, &word) || word.size != 8)
+        return false;
+    *number = 0;
+    for (i = 0; i < word.size; i++) {
+        int digit = digit_value(word.start[i]);
+
+        if (digit < 0)
+            return false;
+        *number = *number * 16 + (uint32_t)digit;
+    }
+    return true;
+}
+
+/* Takes all words that are left, as those of a record. Each takes nine bytes of the line. */
+static bool take_record(struct replay *replay, struct line *line, struct numbers *record)
+{
+    size_t i;
+
+    record->count = is_over(line) ? 0 : (line->all.size - line->next + 1) / 9;
+    record->start = (uint32_t *)(void *)lend(&replay->record, record->count * sizeof *record->start);
+    for (i = 0; i < record->count; i++) {
+        if (!take_hexadecimal(line, &record->start[i]))
+            return false;
+    }
+    return is_over(line);
 }
 
 /* The space that a linked call is lent for its records, and how many words it wrote. A plain call writes none. */
@@ -395,7 +429,9 @@ static void print_entry(const unsigned char *memory, uint32_t place)
     putchar('\n');
 }
 
-static void print_table(const unsigned char *memory)
+/* Prints a table. What is to stand behind the count of entries is printed by the function handed in, if there is one. */
+static void print_table_with(const unsigned char *memory, void (*print_more)(const struct replay *replay),
+                             const struct replay *replay)
 {
     uint32_t count, switches, marks, place;
     int32_t result = permissions_head(memory, PERMISSIONS_TABLE_BYTES, &count, &switches, &marks);
@@ -404,9 +440,30 @@ static void print_table(const unsigned char *memory)
         printf("refused %d\n", (int)-result);
         return;
     }
-    printf("entries %u switches %u marks %u\n", (unsigned)count, (unsigned)switches, (unsigned)marks);
+    printf("entries %u", (unsigned)count);
+    if (print_more != NULL)
+        print_more(replay);
+    printf(" switches %u marks %u\n", (unsigned)switches, (unsigned)marks);
     for (place = 0; place < count; place++)
         print_entry(memory, place);
+}
+
+static void print_table(const unsigned char *memory)
+{
+    print_table_with(memory, NULL, NULL);
+}
+
+/* The standby's last number, and what is owed to it. */
+static void print_numbers(const struct replay *replay)
+{
+    uint64_t owed;
+    int32_t result = permissions_owed(replay->last, replay->highest, &owed);
+
+    printf(" changes %" PRIu64 " owed ", replay->last);
+    if (result < 0)
+        printf("refused%d", (int)-result);
+    else
+        fputs(owed == 0 ? "0" : "some", stdout);
 }
 
 /* ---- calls ----
@@ -646,6 +703,52 @@ static bool call_childlist(struct replay *replay, struct line *line)
     return true;
 }
 
+static bool call_standby(struct replay *replay, struct line *line)
+{
+    if (!is_over(line))
+        return false;
+    print_done(permissions_fresh(table_of(&replay->standby), PERMISSIONS_TABLE_BYTES));
+    replay->last = 0;
+    replay->highest = 0;
+    return true;
+}
+
+static bool call_numbers(struct replay *replay, struct line *line)
+{
+    uint32_t last, highest;
+
+    if (!take_number(line, &last) || !take_number(line, &highest) || !is_over(line))
+        return false;
+    replay->last = last;
+    replay->highest = highest;
+    puts("ok");
+    return true;
+}
+
+static bool call_arrive(struct replay *replay, struct line *line)
+{
+    struct numbers record;
+    int32_t result;
+
+    if (!take_record(replay, line, &record))
+        return false;
+    result = permissions_arrive(table_of(&replay->standby), PERMISSIONS_TABLE_BYTES, &replay->last, &replay->highest,
+                                record.start, record.count);
+    if (result < 0)
+        printf("refused %d\n", (int)-result);
+    else
+        puts(permissions_arrival_name(result));
+    return true;
+}
+
+static bool call_standbylist(struct replay *replay, struct line *line)
+{
+    if (!is_over(line))
+        return false;
+    print_table_with(table_of(&replay->standby), print_numbers, replay);
+    return true;
+}
+
 static const struct call {
     const char *name;
     bool (*make)(struct replay *replay, struct line *line);
@@ -662,6 +765,10 @@ static const struct call {
     { "number", call_number },
     { "list", call_list },
     { "childlist", call_childlist },
+    { "standby", call_standby },
+    { "numbers", call_numbers },
+    { "arrive", call_arrive },
+    { "standbylist", call_standbylist },
 };
 
 enum { CALLS = sizeof calls / sizeof calls[0] };
@@ -767,6 +874,7 @@ int main(int count, char **words)
     } else {
         make_table(&replay.table);
         make_table(&replay.child);
+        make_table(&replay.standby);
         answer_script(&replay);
     }
     if (fflush(stdout) != 0 || ferror(stdout))

@@ -3,29 +3,28 @@ use Prim.Native.Nat.{ℕ, zero, suc, _+_, _≤_, _<_}
 use mathlib.Core.Path.{_≡_, refl, ap, _∙_}
 use mathlib.Core.List.{List, [], _∷_, _++_, List·Memᴰ, List·Memᴰ·append-cases, List·Memᴰ·eq-of-singleton, List·Memᴰ·not-nil, Sublistᴰ·slnil, Sublistᴰ·eq-nil}
 use mathlib.Core.Option.{some}
-use mathlib.Core.Bool.{Bool, true, false, cond}
+use mathlib.Core.Bool.{true, false}
 use mathlib.Core.Logic.{_⊎_, inl, inr}
 use native.Mathlib.Numerals.{add-one}
 use native.Mathlib.Nat.{zero-add}
 use native.Mathlib.Omega.{arith}
 use lib.ListN.{length, getD, take}
 use lib.Seq.{length-take-le, take-suc}
-use lib.Dec.{leb, ltb, eqb}
-use borrow.Author.Tests.{leb-true, eqb-true, eqb-false, ltb-true, ltb-false, le-ltb}
 use Rattle.refusals.specs.declared.Refusal.{Refusal}
-use Rattle.refusals.specs.Refusals.{firstCause, Result, ok, andThen, unless}
+use Rattle.refusals.specs.Refusals.{firstCause, Result, ok}
 use Rattle.table.specs.Tables.{Table, fresh}
 use Rattle.table.specs.Acts.{Act, revokeAll, actOverflows, applyActs}
 use Rattle.table.specs.Memory.{tableOf, holds}
 use Rattle.table.specs.Carrying.{usedUp, carryCause}
-use Rattle.table.specs.Calls.{carried}
 use Rattle.table.proofs.ActLaws.{applied-append, acted-none, acted-one}
 use Rattle.records.specs.Records.{Change, changeWords, numbered, readChange}
 use Rattle.records.proofs.RecordLaws.{read-back}
 use Rattle.standby.specs.declared.Numbers.{Numbers}
 use Rattle.standby.specs.declared.Arrival.{Arrival}
 use Rattle.standby.specs.declared.Arrival.the-variants.{Applied, Repeat, Early, Refused}
-use Rattle.standby.specs.Arriving.{standbyIn, wellFormed, Taken, higher, applied, passedBy, taken, arrival, answerIn, actsIn, numbersIn, Comes, Arrives}
+use Rattle.standby.specs.Arriving.{Taken, higher, passedBy, taken, answerIn, actsIn, numbersIn, Comes, Arrives}
+use Rattle.standby.proofs.ArrivingLaws.{arrival-taken, taken-by, applied-room}
+use Rattle.standby.proofs.KeepLaws.{Raises, taken-raises}
 use Rattle.handover.specs.Handover.{recordsOf, records, Standby, Arrivals, freshStandby, thenArrival, InSequence}
 use Rattle.handover.proofs.RecordableLaws.{Recorded, recorded-at}
 use Rattle.handover.proofs.SequenceLaws.{place-of, sequence-kept, sequence-next, Back, before, by-one, sequence-back}
@@ -70,28 +69,13 @@ data NextOrOther (s : Numbers) (c : Change) : Result Taken → Type 0 where
   other : {answer : Arrival} → ((cause : Refusal) → Refused cause ≡ answer → ⊥) → (c .number ≡ s .n + 1 → ⊥)
       → NextOrOther s c (ok (record { answer = answer; acts = []; numbers = record { n = s .n; h = higher (s .h) (c .number) } }))
 
-next-applied : (t : Table) (s : Numbers) (c : Change) → c .number ≡ s .n + 1 → actOverflows t (c .act) ≡ false → NextOrOther s c (applied t s c)
-unfolding applied carried carryCause usedUp firstCause unless andThen
-next-applied t s c e room = rw room (next e)
-
 next-or-other : (t : Table) (s : Numbers) (c : Change) → (c .number ≡ s .n + 1 → actOverflows t (c .act) ≡ false) → NextOrOther s c (taken t s c)
-unfolding taken
-next-or-other t s c room = by (leb (c .number) (s .n)) (eqb (c .number) (s .n + 1)) refl refl
-  where
-    by : (low here : Bool) → leb (c .number) (s .n) ≡ low → eqb (c .number) (s .n + 1) ≡ here
-        → NextOrOther s c (cond low (passedBy Repeat s c) (cond here (applied t s c) (passedBy Early s c)))
-    by true here e f =
-        unfold passedBy in other {answer = Repeat} (λ cause q. let z : _≡_ {A = ℕ} 0 1 = cc in omega arith) (λ q. omega (arith, leb-true (c .number) (s .n) e))
-    by false true e f = let is = eqb-true _ _ f in next-applied t s c is (room is)
-    by false false e f = unfold passedBy in other {answer = Early} (λ cause q. let z : _≡_ {A = ℕ} 0 1 = cc in omega arith) (eqb-false _ _ f)
-
-higher-least : (h k : ℕ) → (h ≤ higher h k) × (k ≤ higher h k)
-unfolding higher
-higher-least h k = by (ltb h k) refl
-  where
-    by : (b : Bool) → ltb h k ≡ b → (h ≤ cond b k h) × (k ≤ cond b k h)
-    by true e = omega (arith, ltb-true h k e)
-    by false e = omega (arith, ltb-false h k e)
+unfolding passedBy carryCause usedUp firstCause
+next-or-other t s c room =
+    taken-by t s c (NextOrOther s c)
+    (λ l. other {answer = Repeat} (λ cause q. let z : _≡_ {A = ℕ} 0 1 = cc in omega arith) (λ e. omega arith))
+    (λ l. other {answer = Early} (λ cause q. let z : _≡_ {A = ℕ} 0 1 = cc in omega arith) (λ e. omega arith))
+    (λ e. rw (applied-room t s c (rw (room e))) (next e))
 
 -- ---- any list of arrivals
 
@@ -114,10 +98,6 @@ unrefused-more {answers} {r} f g cause m = by (List·Memᴰ·append-cases answer
 
 module _ {acts : List Act} (R : Recorded 0 fresh acts) {m : List ℕ} {s : Numbers} {came : List (List ℕ)} {answers : List Arrival}
     (S : StandbyIs acts m s came answers) (k : ℕ) (h : k < length acts) where
-  is-taken : arrival m (recordAt acts k) s ≡ taken (tableOf m) s (changeAt acts k)
-  unfolding arrival standbyIn firstCause unless andThen wellFormed
-  is-taken = rw (S .holding, le-ltb _ _ (S .ordered), reads R k h)
-
   room : k + 1 ≡ s .n + 1 → actOverflows (tableOf m) (getD acts k revokeAll) ≡ false
   room e = let at : s .n ≡ k = omega arith in rw (S .table, at) (recorded-at R k h .room)
 
@@ -129,28 +109,26 @@ module _ {acts : List Act} (R : Recorded 0 fresh acts) {m : List ℕ} {s : Numbe
       by (before B) = omega (arith, S .greatest j B)
       by (by-one i e f B) = omega (arith, S .greatest i B, one-place R i k (omega (arith, record-count 0 acts, I .made)) h f)
 
-  arrived-more : {call : Result Taken} {m′ : List ℕ} {s′ : Numbers} {r : Arrival} → NextOrOther s (changeAt acts k) call → Comes call m s m′ s′ r
+  arrived-more : {call : Result Taken} {m′ : List ℕ} {s′ : Numbers} {r : Arrival} → NextOrOther s (changeAt acts k) call → Raises s (numbersIn call s) → Comes call m s m′ s′ r
       → StandbyIs acts m′ s′ (came ++ recordAt acts k ∷ []) (answers ++ r ∷ [])
   unfolding answerIn actsIn numbersIn
-  arrived-more (next e) C =
+  arrived-more (next e) U C =
       let at : s .n ≡ k = omega arith in
       let A = acted-one m (getD acts k revokeAll) (S .holding) (recorded-at R k h .readable .fits) (room e) in
-      let high = higher-least (s .h) (k + 1) in
       rw (C .memory, C .numbers, C .answer) (record {
         holding = A .holding;
         table = A .table ∙ rw (S .table, at, add-one, take-suc acts k revokeAll h, applied-append);
-        ordered = omega arith;
+        ordered = U .ordered (S .ordered);
         reached = rw at (sequence-next (omega (arith, record-count 0 acts)) (rw at at (S .reached)));
         greatest = λ j I. reach j I .0;
         unrefused = unrefused-more (S .unrefused) (λ cause q. let z : _≡_ {A = ℕ} 0 1 = cc in omega arith);
       })
-  arrived-more (other f e) C =
+  arrived-more (other f e) U C =
       let A = acted-none m (S .holding) in
-      let high = higher-least (s .h) (k + 1) in
       rw (C .memory, C .numbers, C .answer) (record {
         holding = A .holding;
         table = A .table ∙ (unfold applyActs in S .table);
-        ordered = omega (arith, S .ordered);
+        ordered = U .ordered (S .ordered);
         reached = sequence-kept (recordAt acts k) (S .reached);
         greatest = λ j I. reach j I .1 e;
         unrefused = unrefused-more (S .unrefused) f;
@@ -158,7 +136,9 @@ module _ {acts : List Act} (R : Recorded 0 fresh acts) {m : List ℕ} {s : Numbe
 
   arrived : {m′ : List ℕ} {s′ : Numbers} {r : Arrival} → Arrives m (recordAt acts k) s m′ s′ r
       → StandbyIs acts m′ s′ (came ++ recordAt acts k ∷ []) (answers ++ r ∷ [])
-  arrived C = arrived-more (next-or-other (tableOf m) s (changeAt acts k) room) (rw is-taken at C)
+  arrived C =
+      arrived-more (next-or-other (tableOf m) s (changeAt acts k) room) (taken-raises s (tableOf m) (changeAt acts k))
+      (rw (arrival-taken m (recordAt acts k) s (S .holding) (S .ordered) (reads R k h)) at C)
 
 pub standby-is : {acts : List Act} {s : Standby} {came : List (List ℕ)} {answers : List Arrival} → Recorded 0 fresh acts
     → Arrivals Arrives (records acts) s came answers → StandbyIs acts (s .memory) (s .numbers) came answers

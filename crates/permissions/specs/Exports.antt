@@ -26,6 +26,10 @@ use Rattle.link.specs.declared.AskSent.{AskSent}
 use Rattle.link.specs.declared.RevokeSent.{RevokeSent}
 use Rattle.link.specs.declared.ChildSent.{ChildSent}
 use Rattle.link.specs.Linked.{LinkedInserts, LinkedSwitches, LinkedAsks, LinkedRevokes, LinkedChild}
+use Rattle.standby.specs.declared.Arrival.{Arrival}
+use Rattle.standby.specs.declared.Owed.{Owed}
+use Rattle.standby.specs.Arriving.{Arrives}
+use Rattle.standby.specs.Owing.{Owes}
 use Rattle.permissions.specs.Numbers.{
   refusedNumber,
   outcomeNumber,
@@ -37,6 +41,9 @@ use Rattle.permissions.specs.Numbers.{
   listedKind,
   listedStart,
   listedSize,
+  arrivalNumber,
+  owedNumber,
+  owedCount,
 }
 
 -- ---- calls with one result
@@ -172,3 +179,17 @@ pub record ExportedLinkedChild (m : List ℕ) (n : ℕ) (c w : List ℕ) (code :
   pub number : r ≡ outcomeNumber (answered .made .outcome)
   pub asked : told ≡ answered .made .asked
   pub words : k ≡ answered .words
+
+-- ---- the standby: n and h are its two numbers, n′ and h′ the same after the arrival
+
+pub record ExportedArrive (m words : List ℕ) (n h : ℕ) (m′ : List ℕ) (n′ h′ : ℕ) (r : ℤ) : Type 0 where
+  pub answered : Arrival
+  pub promise : Arrives m words (record { n = n; h = h }) m′ (record { n = n′; h = h′ }) answered
+  pub number : r ≡ arrivalNumber answered
+
+-- how much is owed
+pub record ExportedOwed (n h k : ℕ) (r : ℤ) : Type 0 where
+  pub answered : Owed
+  pub promise : Owes n h answered
+  pub number : r ≡ owedNumber answered
+  pub count : k ≡ owedCount answered

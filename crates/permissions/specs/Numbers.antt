@@ -14,6 +14,10 @@ use Rattle.walk.specs.declared.Answer.the-variants as answer
 use Rattle.walk.specs.Walk.{stateNumber}
 use Rattle.calls.specs.declared.Question.{Question}
 use Rattle.calls.specs.declared.Question.the-variants as question
+use Rattle.standby.specs.declared.Arrival.{Arrival}
+use Rattle.standby.specs.declared.Arrival.the-variants as arrival
+use Rattle.standby.specs.declared.Owed.{Owed}
+use Rattle.standby.specs.declared.Owed.the-variants as owed
 
 -- refusal n is −n
 abbrev pub refusedNumber : Refusal → ℤ
@@ -61,3 +65,19 @@ listedStart listed.Nothing = 0
 abbrev pub listedSize : Listed → ℕ
 listedSize (listed.Entry kind start size) = size
 listedSize listed.Nothing = 0
+
+-- an arrival: 0 applied, 1 a repeat, 2 early, or a refusal
+abbrev pub arrivalNumber : Arrival → ℤ
+arrivalNumber arrival.Applied = pos 0
+arrivalNumber arrival.Repeat = pos 1
+arrivalNumber arrival.Early = pos 2
+arrivalNumber (arrival.Refused cause) = refusedNumber cause
+
+-- a report of what is owed: 0, or a refusal; and how much
+abbrev pub owedNumber : Owed → ℤ
+owedNumber (owed.Changes k) = pos 0
+owedNumber (owed.Refused cause) = refusedNumber cause
+
+abbrev pub owedCount : Owed → ℕ
+owedCount (owed.Changes k) = k
+owedCount (owed.Refused cause) = 0

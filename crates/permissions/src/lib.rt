@@ -39,12 +39,13 @@ ghost use Rattle.permissions.specs.Exports.{
   ExportedEntry,
 };
 
+pub mod arriving;
 pub mod linking;
 
 // ---- numbers
 
 // A refusal as a result.
-fn refused(cause: Refusal) -> i32
+pub(crate) fn refused(cause: Refusal) -> i32
     ensures { λ r. ⌜ r ≡ refusedNumber cause ⌝ }
 {
     -(refusal_number(cause) as i32)

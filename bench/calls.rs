@@ -1,9 +1,13 @@
 // Times query, check and request: Rattle's static library, whole calls with the
 // memory test and resolving, beside the Rust's own functions on a resolved
-// descriptor, on the same tables and paths in one run. bench/run builds and runs it.
+// descriptor; and linked check and request beside the plain ones. Both sides have
+// the same tables and paths, in one run. bench/run builds and runs it.
 //
-//   calls CALL                             a table of times and ratios
-//   calls CALL WHO ENTRIES CASE REPEATS    only runs WHO's calls, for counting instructions
+//   calls CALL                              a table of times and ratios
+//   calls CALL SIDE ENTRIES CASE REPEATS    only runs one side's calls, for counting instructions
+//
+// The sides of query, check and request are rust and rattle, those of linked-check
+// and linked-request plain and linked.
 
 use std::hint::black_box;
 use std::time::Instant;
@@ -53,12 +57,24 @@ mod read {
 
 use read::calls::Given;
 use read::calls::Table;
+use read::measured::Asked;
+
+// Check and request, and their linked forms.
+type Ask = unsafe extern "C" fn(
+    *mut u8, usize, *const u8, usize, *const u8, usize, u32, *mut u8, usize, *mut u32, *mut usize,
+) -> i32;
+type LinkedAsk = unsafe extern "C" fn(
+    *mut u8, usize, *mut u64, *const u8, usize, *const u8, usize, u32, *mut u8, usize, *mut u32, usize, *mut u32, *mut usize,
+    *mut usize,
+) -> i32;
 
 unsafe extern "C" {
     fn permissions_fresh(memory: *mut u8, size: usize) -> i32;
     fn permissions_insert(
         memory: *mut u8, size: usize, kind: u32, path: *const u8, path_size: usize, cwd: *const u8, cwd_size: usize,
     ) -> i32;
+    fn permissions_switches(memory: *mut u8, size: usize, switches: u32) -> i32;
+    fn permissions_used(memory: *const u8, size: usize) -> i32;
     fn permissions_query(
         memory: *const u8, size: usize, mode: u32, path: *const u8, path_size: usize, cwd: *const u8, cwd_size: usize,
     ) -> i32;
@@ -70,16 +86,30 @@ unsafe extern "C" {
         memory: *mut u8, size: usize, path: *const u8, path_size: usize, cwd: *const u8, cwd_size: usize, answer: u32,
         text: *mut u8, text_space: usize, asked: *mut u32, text_size: *mut usize,
     ) -> i32;
+    fn permissions_linked_check(
+        memory: *mut u8, size: usize, number: *mut u64, path: *const u8, path_size: usize, cwd: *const u8, cwd_size: usize,
+        answer: u32, text: *mut u8, text_space: usize, records: *mut u32, records_space: usize, asked: *mut u32,
+        text_size: *mut usize, records_size: *mut usize,
+    ) -> i32;
+    fn permissions_linked_request(
+        memory: *mut u8, size: usize, number: *mut u64, path: *const u8, path_size: usize, cwd: *const u8, cwd_size: usize,
+        answer: u32, text: *mut u8, text_space: usize, records: *mut u32, records_space: usize, asked: *mut u32,
+        text_size: *mut usize, records_size: *mut usize,
+    ) -> i32;
 }
 
 struct Memory {
     table: Vec<u8>,
     text: Vec<u8>,
+    records: Vec<u32>,
+    answer: u32,
+    before: Vec<u8>, // what is set back before each call; nothing, unless the operator is asked
 }
 
 impl Memory {
     fn fresh() -> Self {
-        let mut memory = Memory { table: vec![0; 33540], text: vec![0; 1041] };
+        let (table, text, records) = (vec![0; 33540], vec![0; 1041], vec![0; 344]);
+        let mut memory = Memory { table, text, records, answer: 0, before: Vec::new() };
         assert_eq!(unsafe { permissions_fresh(memory.table.as_mut_ptr(), memory.table.len()) }, 0);
         memory
     }
@@ -93,6 +123,22 @@ impl Memory {
         }
     }
 
+    // From here on the operator is asked, and allows.
+    fn let_ask(&mut self) {
+        let used = unsafe {
+            assert_eq!(permissions_switches(self.table.as_mut_ptr(), self.table.len(), 16), 0);
+            permissions_used(self.table.as_ptr(), self.table.len())
+        };
+        self.before = self.table[..usize::try_from(used).expect("a table")].to_vec();
+        self.answer = 1;
+    }
+
+    fn set_back(&mut self) {
+        if !self.before.is_empty() {
+            self.table[..self.before.len()].copy_from_slice(&self.before);
+        }
+    }
+
     fn query(&mut self, path: &str) -> i32 {
         let cwd = b"/";
         unsafe {
@@ -102,26 +148,47 @@ impl Memory {
         }
     }
 
-    fn check(&mut self, path: &str) -> i32 {
+    #[inline(always)]
+    fn ask(&mut self, call: Ask, path: &str) -> i32 {
         let cwd = b"/";
         let (mut asked, mut size) = (0, 0);
+        self.set_back();
         unsafe {
-            permissions_check(
-                self.table.as_mut_ptr(), self.table.len(), path.as_ptr(), path.len(), cwd.as_ptr(), cwd.len(), 0,
+            call(
+                self.table.as_mut_ptr(), self.table.len(), path.as_ptr(), path.len(), cwd.as_ptr(), cwd.len(), self.answer,
                 self.text.as_mut_ptr(), self.text.len(), &mut asked, &mut size,
             )
         }
     }
 
-    fn request(&mut self, path: &str) -> i32 {
+    #[inline(always)]
+    fn linked_ask(&mut self, call: LinkedAsk, path: &str) -> i32 {
         let cwd = b"/";
-        let (mut asked, mut size) = (0, 0);
+        let (mut number, mut asked, mut size, mut words) = (0, 0, 0, 0);
+        self.set_back();
         unsafe {
-            permissions_request(
-                self.table.as_mut_ptr(), self.table.len(), path.as_ptr(), path.len(), cwd.as_ptr(), cwd.len(), 0,
-                self.text.as_mut_ptr(), self.text.len(), &mut asked, &mut size,
+            call(
+                self.table.as_mut_ptr(), self.table.len(), &mut number, path.as_ptr(), path.len(), cwd.as_ptr(), cwd.len(),
+                self.answer, self.text.as_mut_ptr(), self.text.len(), self.records.as_mut_ptr(), self.records.len(),
+                &mut asked, &mut size, &mut words,
             )
         }
+    }
+
+    fn check(&mut self, path: &str) -> i32 {
+        self.ask(permissions_check, path)
+    }
+
+    fn request(&mut self, path: &str) -> i32 {
+        self.ask(permissions_request, path)
+    }
+
+    fn linked_check(&mut self, path: &str) -> i32 {
+        self.linked_ask(permissions_linked_check, path)
+    }
+
+    fn linked_request(&mut self, path: &str) -> i32 {
+        self.linked_ask(permissions_linked_request, path)
     }
 }
 
@@ -160,6 +227,7 @@ fn worst(count: usize) -> Vec<(u32, String)> {
 struct Case {
     entries: Vec<(u32, String)>,
     paths: Vec<String>,
+    is_asked: bool,
 }
 
 fn case(name: &str, count: usize) -> Case {
@@ -173,118 +241,149 @@ fn case(name: &str, count: usize) -> Case {
                     if i % 2 == 0 { format!("{path}/today.txt") } else { path.replace("unit", "pump") }
                 })
                 .collect();
-            Case { entries, paths }
+            Case { entries, paths, is_asked: false }
         }
         // no entry matches, and each is read to its last component
         "worst" => {
             let entries = worst(count);
             let path = entries[0].1.replace("000", "zzz");
-            Case { entries, paths: vec![path] }
+            Case { entries, paths: vec![path], is_asked: false }
+        }
+        // the paths lie below no entry, and the operator is asked about each
+        "asked" => {
+            let entries = realistic(count);
+            let paths = (0..16).map(|i| entries[i * count / 16].1.replace("unit", "pump")).collect();
+            Case { entries, paths, is_asked: true }
+        }
+        // the same, with a path that makes the longest record
+        "longest" => {
+            let path = format!("/{}", "a".repeat(1023));
+            Case { entries: realistic(count), paths: vec![path], is_asked: true }
         }
         other => panic!("no case {other}"),
     }
 }
 
-#[derive(Clone, Copy)]
-struct Call {
-    rust: fn(&mut Table, &read::measured::Asked) -> i32,
-    rattle: fn(&mut Memory, &str) -> i32,
+// A table and a call on it.
+enum Side {
+    Rust { table: Table, asked: Vec<Asked>, call: fn(&mut Table, &Asked) -> i32 },
+    Rattle { memory: Memory, paths: Vec<String>, call: fn(&mut Memory, &str) -> i32 },
 }
 
-fn call(name: &str) -> Call {
-    match name {
-        "query" => Call { rust: read::measured::query, rattle: Memory::query },
-        "check" => Call { rust: read::measured::check, rattle: Memory::check },
-        "request" => Call { rust: read::measured::request, rattle: Memory::request },
-        other => panic!("no call {other}"),
-    }
-}
-
-struct Sides {
-    call: Call,
-    rust: Table,
-    rattle: Memory,
-    asked: Vec<read::measured::Asked>,
-    paths: Vec<String>,
-}
-
-// Both sides with the case's table. Each path is asked about once: the answers must be equal, and a request has
-// then inserted what it inserts, so that later ones find the table as it stays.
-fn sides(call: Call, case: Case) -> Sides {
-    let mut rust = Table::default();
-    let mut rattle = Memory::fresh();
+fn rust_side(case: &Case, call: fn(&mut Table, &Asked) -> i32) -> Side {
+    let mut table = Table::default();
     for (kind, path) in &case.entries {
         let given = Given { path: path.as_bytes(), directory: b"/" };
-        read::calls::insert(&mut rust, *kind, given).expect("an insert within the limits");
-        assert_eq!(rattle.insert(*kind, path), 0);
+        read::calls::insert(&mut table, *kind, given).expect("an insert within the limits");
     }
-    let asked: Vec<_> = case.paths.iter().map(|path| read::measured::resolved(path)).collect();
-    for (path, asked) in case.paths.iter().zip(&asked) {
-        assert_eq!((call.rust)(&mut rust, asked), (call.rattle)(&mut rattle, path), "{path}");
-    }
-    Sides { call, rust, rattle, asked, paths: case.paths }
+    let asked = case.paths.iter().map(|path| read::measured::resolved(path)).collect();
+    Side::Rust { table, asked, call }
 }
 
-impl Sides {
-    fn rust(&mut self, repeats: usize) {
-        for _ in 0..repeats {
-            for asked in &self.asked {
-                black_box((self.call.rust)(black_box(&mut self.rust), black_box(asked)));
+fn rattle_side(case: &Case, call: fn(&mut Memory, &str) -> i32) -> Side {
+    let mut memory = Memory::fresh();
+    for (kind, path) in &case.entries {
+        assert_eq!(memory.insert(*kind, path), 0);
+    }
+    if case.is_asked {
+        memory.let_ask();
+    }
+    Side::Rattle { memory, paths: case.paths.clone(), call }
+}
+
+impl Side {
+    fn answers(&mut self) -> Vec<i32> {
+        match self {
+            Side::Rust { table, asked, call } => asked.iter().map(|asked| call(table, asked)).collect(),
+            Side::Rattle { memory, paths, call } => paths.iter().map(|path| call(memory, path)).collect(),
+        }
+    }
+
+    fn run(&mut self, repeats: usize) {
+        match self {
+            Side::Rust { table, asked, call } => {
+                for _ in 0..repeats {
+                    for asked in asked.iter() {
+                        black_box(call(black_box(table), black_box(asked)));
+                    }
+                }
+            }
+            Side::Rattle { memory, paths, call } => {
+                for _ in 0..repeats {
+                    for path in paths.iter() {
+                        black_box(call(black_box(memory), black_box(path)));
+                    }
+                }
             }
         }
     }
 
-    fn rattle(&mut self, repeats: usize) {
-        for _ in 0..repeats {
-            for path in &self.paths {
-                black_box((self.call.rattle)(black_box(&mut self.rattle), black_box(path)));
-            }
-        }
-    }
-
-    fn run(&mut self, who: &str, repeats: usize) {
-        match who {
-            "rust" => self.rust(repeats),
-            "rattle" => self.rattle(repeats),
-            other => panic!("no side {other}"),
-        }
-    }
-
-    // The least time of a call over some rounds of some 50 ms each, in nanoseconds.
-    fn nanoseconds(&mut self, who: &str) -> f64 {
-        let mut round = |repeats: usize| {
-            let start = Instant::now();
-            self.run(who, repeats);
-            start.elapsed().as_nanos() as f64
-        };
-        let once = round(1).max(1.0);
-        let repeats = ((50e6 / once) as usize).clamp(1, 1_000_000);
-        let least = (0..9).map(|_| round(repeats)).fold(f64::INFINITY, f64::min);
-        least / (repeats * self.paths.len()) as f64
+    fn nanoseconds(&mut self, repeats: usize) -> f64 {
+        let start = Instant::now();
+        self.run(repeats);
+        start.elapsed().as_nanos() as f64
     }
 }
 
-// The sizes of the tables. A request that is granted inserts its path, so its largest table leaves room.
+// The least time of each side for all paths once, over some rounds of some 50 ms, the sides in turn; in nanoseconds.
+fn least(sides: &mut [Side; 2]) -> [f64; 2] {
+    let repeats = [0, 1].map(|i| ((50e6 / sides[i].nanoseconds(1).max(1.0)) as usize).clamp(1, 1_000_000));
+    let mut least = [f64::INFINITY; 2];
+    for _ in 0..9 {
+        for i in [0, 1] {
+            least[i] = least[i].min(sides[i].nanoseconds(repeats[i]) / repeats[i] as f64);
+        }
+    }
+    least
+}
+
+// Both sides of a call with the case's table. Each path is asked about once: the answers must be equal, and a request
+// has then inserted what it inserts, so that later ones find the table as it stays.
+fn sides(name: &str, case: &Case) -> [Side; 2] {
+    let mut sides = match name {
+        "query" => [rust_side(case, read::measured::query), rattle_side(case, Memory::query)],
+        "check" => [rust_side(case, read::measured::check), rattle_side(case, Memory::check)],
+        "request" => [rust_side(case, read::measured::request), rattle_side(case, Memory::request)],
+        "linked-check" => [rattle_side(case, Memory::check), rattle_side(case, Memory::linked_check)],
+        "linked-request" => [rattle_side(case, Memory::request), rattle_side(case, Memory::linked_request)],
+        other => panic!("no call {other}"),
+    };
+    let [first, second] = &mut sides;
+    assert_eq!(first.answers(), second.answers());
+    if let (true, Side::Rattle { memory, .. }) = (case.is_asked, second) {
+        assert_ne!(memory.records[0], 0, "no record is written");
+    }
+    sides
+}
+
+// The sizes of the tables. A call that inserts a path must find room in the largest.
 fn sizes(name: &str) -> [usize; 3] {
-    if name == "request" { [40, 200, 240] } else { [40, 200, 256] }
+    if name == "query" || name == "check" { [40, 200, 256] } else { [40, 200, 240] }
 }
 
 fn main() {
     let words: Vec<String> = std::env::args().skip(1).collect();
     let Some(name) = words.first() else { panic!("no call named") };
-    let call = call(name);
-    if let [_, who, entries, case_name, repeats] = words.as_slice() {
-        let mut sides = sides(call, case(case_name, entries.parse().expect("a number of entries")));
-        sides.run(who, repeats.parse().expect("a number of repeats"));
+    if let [_, side, entries, case_name, repeats] = words.as_slice() {
+        let [mut first, mut second] = sides(name, &case(case_name, entries.parse().expect("a number of entries")));
+        let side = match side.as_str() {
+            "rust" | "plain" => &mut first,
+            _ => &mut second,
+        };
+        side.run(repeats.parse().expect("a number of repeats"));
         return;
     }
-    println!("| entries | paths | Rust `{name}` | Rattle, whole call | Rattle / Rust |");
+    let plain = name.strip_prefix("linked-");
+    match plain {
+        None => println!("| entries | paths | Rust `{name}` | Rattle, whole call | Rattle / Rust |"),
+        Some(plain) => println!("| entries | paths | `{plain}` | linked | linked / plain |"),
+    }
     println!("|---|---|---|---|---|");
-    for case_name in ["realistic", "worst"] {
+    for case_name in &["realistic", "worst", "asked", "longest"][..if plain.is_some() { 4 } else { 2 }] {
         for entries in sizes(name) {
-            let mut sides = sides(call, case(case_name, entries));
-            let (rust, rattle) = (sides.nanoseconds("rust"), sides.nanoseconds("rattle"));
-            println!("| {entries} | {case_name} | {rust:.0} ns | {rattle:.0} ns | {:.2} |", rattle / rust);
+            let case = case(case_name, entries);
+            let [first, second] = least(&mut sides(name, &case)).map(|time| time / case.paths.len() as f64);
+            println!("| {entries} | {case_name} | {first:.0} ns | {second:.0} ns | {:.2} |", second / first);
         }
     }
 }

@@ -13,9 +13,11 @@
 struct area areas[AREAS] = {
     [MEMORY] = {.name = "memory", .room = TABLE_BYTES + 8192},
     [CHILD] = {.name = "child", .room = TABLE_BYTES + 8192},
+    [TEXT] = {.name = "text", .room = 8192},
+    [RECORDS] = {.name = "record space", .room = 80 * RECORD_WORDS * sizeof(uint32_t)},
+    [MAIN_NUMBER] = {.name = "main's number", .room = sizeof(uint64_t)},
     [PATH] = {.name = "path", .room = LONGEST_PATH},
     [DIRECTORY] = {.name = "directory", .room = LONGEST_PATH},
-    [TEXT] = {.name = "text", .room = 8192},
     [ITEMS] = {.name = "items", .room = 80 * LONGEST_PATH},
     [ENDS] = {.name = "ends", .room = 80 * sizeof(uint32_t)},
     [RESPONSES] = {.name = "answers", .room = 80 * sizeof(uint32_t)},

@@ -8,7 +8,10 @@
 
 enum { LEAD_BYTES = 32 };
 
-enum { MEMORY, CHILD, PATH, DIRECTORY, TEXT, ITEMS, ENDS, RESPONSES, NUMBER, NUMBER_2, NUMBER_3, AREAS };
+/* Those from PATH to RESPONSES are only read; NUMBER and on are numbers that every call writes. */
+enum {
+    MEMORY, CHILD, TEXT, RECORDS, MAIN_NUMBER, PATH, DIRECTORY, ITEMS, ENDS, RESPONSES, NUMBER, NUMBER_2, NUMBER_3, AREAS
+};
 
 struct area {
     const char *name;

@@ -1,7 +1,7 @@
 /* Faults that a build with -DBREAK puts into what a call did, one at a time, by a third argument: hostile CALLS SEED FAULT.
  * From FIRST_WITHOUT_MODEL on nothing is held against the model, so that what calls say of each other must notice the
  * fault. tests/hostile-test sees that each up to LAST_FAULT is noticed. */
-enum { FIRST_BROKEN_CALL = 1000, FIRST_WITHOUT_MODEL = 21, LAST_FAULT = 26 };
+enum { FIRST_BROKEN_CALL = 1000, FIRST_WITHOUT_MODEL = 33, LAST_FAULT = 41 };
 
 static unsigned long fault;
 
@@ -13,12 +13,32 @@ static void change(int area, size_t position)
 
 static int is_asking(void)
 {
-    return current == CHECK_PATH || current == CHECK_ALL || current == REQUEST_PATH || current == REQUEST_ALL;
+    return current == CHECK_PATH || current == CHECK_ALL || current == REQUEST_PATH || current == REQUEST_ALL
+           || (current >= LINKED_CHECK && current <= LINKED_REQUEST_ALL);
 }
 
 static int has_text(void)
 {
     return areas[TEXT].lent && size_in(NUMBER_2) > 0;
+}
+
+static int has_records(void)
+{
+    return turn.linked != NULL && size_in(NUMBER_3) > 0;
+}
+
+static void hide_records(void)
+{
+    memset(areas[NUMBER_3].start, 0, sizeof(size_t));
+}
+
+static void skip_number(void)
+{
+    uint64_t number;
+
+    memcpy(&number, areas[MAIN_NUMBER].start, sizeof number);
+    number++;
+    memcpy(areas[MAIN_NUMBER].start, &number, sizeof number);
 }
 
 /* Faults in the lent areas. */
@@ -40,11 +60,22 @@ static void break_areas(int32_t result)
     case 11: if (current == HEAD && result < 0) change(NUMBER_3, 0); break;        /* a number not written */
     case 12: if (current == MAKE_CHILD && result < -3) change(CHILD, 2); break;    /* a refused child with a switch */
     case 13: if (current == MAKE_CHILD && result < -3) change(CHILD, TABLE_BYTES); break; /* a byte behind a child's memory */
-    case 21: if (is_asking() && result >= 0) change(NUMBER, 0); break;             /* asked turned round */
-    case 22: if (is_asking() && has_text()) change(TEXT, 4); break;                /* other words */
-    case 23: if (is_asking() && has_text()) change(TEXT, 16); break;               /* another name than in the question */
-    case 24: if (current == INSERT && result == 0) change(MEMORY, 3); break;       /* a wrong mark */
-    case 25: if (current == MAKE_CHILD && result < -3) change(CHILD, 1); break;    /* a refused child with an entry */
+    case 21: if (has_records()) change(RECORDS, 3); break;                         /* another kind or act in a head */
+    case 22: if (has_records()) change(RECORDS, 4 * size_in(NUMBER_3) - 1); break; /* another last word */
+    case 23: if (has_records()) change(RECORDS, 4 * size_in(NUMBER_3)); break;     /* a word behind the records */
+    case 24: if (turn.linked != NULL && result < 0) change(RECORDS, 0); break;     /* a refusal writes a record */
+    case 25: if (has_records()) ++*areas[NUMBER_3].start; break;                   /* records one word too long */
+    case 26: if (has_records()) skip_number(); break;                              /* a number left out */
+    case 27: if (turn.linked != NULL && result < 0) skip_number(); break;          /* a refusal takes a number */
+    case 28: if (current == LINKED_CHILD && result < -3) hide_records(); break;    /* a refused child's records not told */
+    case 33: if (is_asking() && result >= 0) change(NUMBER, 0); break;             /* asked turned round */
+    case 34: if (is_asking() && has_text()) change(TEXT, 4); break;                /* other words */
+    case 35: if (is_asking() && has_text()) change(TEXT, 16); break;               /* another name than in the question */
+    case 36: if (current == INSERT && result == 0) change(MEMORY, 3); break;       /* a wrong mark */
+    case 37: if (current == MAKE_CHILD && result < -3) change(CHILD, 1); break;    /* a refused child with an entry */
+    case 38: if (has_records()) skip_number(); break;                              /* a number left out */
+    case 39: if (has_records()) hide_records(); break;                             /* records not told */
+    case 40: if (has_records()) change(RECORDS, 0); break;                         /* another number */
     }
 }
 
@@ -62,7 +93,11 @@ static int32_t broken(int32_t result)
     case 18: return current == USED && result > 0 ? result + 1 : result;  /* a table one byte larger */
     case 19: return current == QUERY && result == -1 ? PROMPT : result;   /* damage that is not seen */
     case 20: return current == MAKE_CHILD && result == -10 ? 0 : result;  /* a child with more than its parent passes */
-    case 26: return current == CHECK_PATH && result > 0 ? 0 : result;     /* a check that fails passes */
+    case 29: return result == -9 ? 0 : result;                            /* a number above the limit is no refusal */
+    case 30: return result == -2 && turn.linked != NULL ? 0 : result;     /* nor is too small a record space */
+    case 31: return result == -8 && turn.linked != NULL && turn.first >= MAX_NUMBER ? -9 : result; /* 9 before 8 */
+    case 32: return current == LINKED_REVOKE && result == -9 ? PROMPT : result; /* a revoke that needs no number */
+    case 41: return current == CHECK_PATH && result > 0 ? 0 : result;     /* a check that fails passes */
     default: return result;
     }
 }

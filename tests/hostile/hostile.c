@@ -22,7 +22,9 @@ enum { EXTRA_BYTES = 4096, SLOTS = 12, GREATEST_CAUSE = 11, GREATEST_STATE = 5, 
 
 enum {
     FRESH, INSERT, SET_SWITCHES, QUERY, QUERY_ALL, CHECK_ASKS, CHECK_PATH, CHECK_ALL_ASKS, CHECK_ALL, REQUEST_ASKS,
-    REQUEST_PATH, REQUEST_ALL_ASKS, REQUEST_ALL, REVOKE, REVOKE_ALL, MAKE_CHILD, USED, HEAD, ENTRY, FUNCTIONS
+    REQUEST_PATH, REQUEST_ALL_ASKS, REQUEST_ALL, REVOKE, REVOKE_ALL, MAKE_CHILD, LINKED_INSERT, LINKED_SWITCHES,
+    LINKED_CHECK, LINKED_CHECK_ALL, LINKED_REQUEST, LINKED_REQUEST_ALL, LINKED_REVOKE, LINKED_REVOKE_ALL, LINKED_CHILD,
+    USED, HEAD, ENTRY, FUNCTIONS
 };
 
 #define CAUSE(n) (1u << (n))
@@ -49,6 +51,15 @@ static const struct {
     [REVOKE] = {"revoke", CAUSE(1) | CAUSES(4, 7), 0, 5},
     [REVOKE_ALL] = {"revoke_all", CAUSE(1), 0, 5},
     [MAKE_CHILD] = {"child", CAUSE(1) | CAUSES(3, 8) | CAUSE(10), 0, 0},
+    [LINKED_INSERT] = {"linked_insert", CAUSES(1, 9), 0, 0},
+    [LINKED_SWITCHES] = {"linked_switches", CAUSES(1, 3) | CAUSE(9), 0, 0},
+    [LINKED_CHECK] = {"linked_check", CAUSES(1, 9), 0, 5},
+    [LINKED_CHECK_ALL] = {"linked_check_all", CAUSES(1, 3) | CAUSE(9), 0, 5},
+    [LINKED_REQUEST] = {"linked_request", CAUSES(1, 9), 0, 5},
+    [LINKED_REQUEST_ALL] = {"linked_request_all", CAUSES(1, 3) | CAUSE(9), 0, 5},
+    [LINKED_REVOKE] = {"linked_revoke", CAUSES(1, 2) | CAUSES(4, 7) | CAUSE(9), 0, 5},
+    [LINKED_REVOKE_ALL] = {"linked_revoke_all", CAUSES(1, 2) | CAUSE(9), 0, 5},
+    [LINKED_CHILD] = {"linked_child", CAUSES(1, 10), 0, 0},
     [USED] = {"used", CAUSE(1), 4, TABLE_BYTES},
     [HEAD] = {"head", CAUSE(1), 0, 0},
     [ENTRY] = {"entry", CAUSE(1), 0, 1},
@@ -60,7 +71,13 @@ static unsigned long calls, call_limit = 100000, seed = 1;
 static unsigned long answers_seen[FUNCTIONS][GREATEST_STATE + 2]; /* the last is for greater results */
 static unsigned long causes_seen[FUNCTIONS][GREATEST_CAUSE + 1];
 static unsigned long tables_seen, none_seen, full_by_entries, full_by_bytes, refused_by_entries, refused_by_bytes;
+static unsigned long records_seen, records_of_refused;
 static int current; /* the function that runs */
+
+static int is_child(void)
+{
+    return current == MAKE_CHILD || current == LINKED_CHILD;
+}
 
 static void violation(const char *format, ...)
 {
@@ -109,13 +126,25 @@ static struct turn {
     int cause;         /* of the path: 0, or 4 to 7 */
     void *text;
     size_t text_space;
+    struct link *linked; /* NULL where the call is a plain one */
+    struct link link;    /* by the model */
+    uint64_t first;      /* the main's number before the call */
+    uint64_t *number;
+    uint32_t *records;
+    size_t records_space;
+    size_t *records_size;
 } turn;
+
+static uint32_t word_in(int area, size_t place)
+{
+    uint32_t word;
+    memcpy(&word, areas[area].start + place * sizeof word, sizeof word);
+    return word;
+}
 
 static uint32_t number_in(int area)
 {
-    uint32_t number;
-    memcpy(&number, areas[area].start, sizeof number);
-    return number;
+    return word_in(area, 0);
 }
 
 static size_t size_in(int area)
@@ -141,11 +170,26 @@ static void want_table(int area, const struct table *table)
     model_writes(table, wanted(area));
 }
 
+/* The main's number, the records from their space's start, and how many words they are. */
+static void want_sent(void)
+{
+    if (turn.linked == NULL)
+        return;
+    memcpy(wanted(MAIN_NUMBER), &turn.link.number, sizeof turn.link.number);
+    memcpy(wanted(RECORDS), turn.link.words, turn.link.size * sizeof turn.link.words[0]);
+    want_size(NUMBER_3, turn.link.size);
+}
+
 #ifdef BREAK
 enum { MOST_ARGUMENTS = 4 };
 #include "broken.h"
 #else
 enum { MOST_ARGUMENTS = 3 };
+
+static int is_without_model(void)
+{
+    return 0;
+}
 #endif
 
 /* ---- after a call */
@@ -156,9 +200,13 @@ static void count_result(int32_t result)
         causes_seen[current][-result]++;
     else
         answers_seen[current][result > GREATEST_STATE ? GREATEST_STATE + 1 : result]++;
-    if (result == -8 && current != MAKE_CHILD) {
+    if (result == -8 && !is_child()) {
         refused_by_entries += turn.table.count == MAX_ENTRIES;
         refused_by_bytes += turn.table.count < MAX_ENTRIES;
+    }
+    if (turn.linked != NULL) {
+        records_seen += (unsigned long)(turn.link.number - turn.first);
+        records_of_refused += result < 0 ? (unsigned long)(turn.link.number - turn.first) : 0;
     }
 }
 
@@ -168,10 +216,12 @@ static void explain_difference(const struct area *area, long position, int32_t r
 
     if (position < 0)
         why = "lies before its start and has changed";
-    else if (area != &areas[MEMORY] && area != &areas[CHILD] && area != &areas[TEXT] && area < &areas[NUMBER])
+    else if (area >= &areas[PATH] && area < &areas[NUMBER])
         why = "has changed, though it is only read";
-    else if (result < 0 && area < &areas[NUMBER])
+    else if (result < 0 && area < &areas[NUMBER] && !is_child())
         why = "has changed, though the call is refused";
+    else if (area == &areas[RECORDS] && (size_t)position >= turn.link.size * sizeof turn.link.words[0])
+        why = "has changed, though it lies behind the records";
     else if (area == &areas[MEMORY] && (size_t)position >= model_used(&turn.after))
         why = "has changed, though it lies behind the table";
     violation("result %d: byte %ld of the %s %s", (int)result, position, area->name, why);
@@ -186,8 +236,28 @@ static void hold_to_header(int32_t result)
         violation("refusal %d is none of its causes", (int)cause);
     if (cause == 0 && (result < functions[current].least || result > functions[current].greatest))
         violation("result %d is none of its answers", (int)result);
-    if ((current == CHECK_PATH || current == CHECK_ALL) && result == GRANTED_PARTIAL)
+    if ((current == CHECK_PATH || current == CHECK_ALL || current == LINKED_CHECK || current == LINKED_CHECK_ALL)
+        && result == GRANTED_PARTIAL)
         violation("fails with state %d", (int)result);
+}
+
+/* What a linked call must leave, whatever the model: a number for each head among its words, one behind the other. */
+static void hold_to_numbers(int32_t result)
+{
+    uint64_t number = turn.first, last;
+    size_t size = size_in(NUMBER_3);
+
+    if (size > turn.records_space || (size > 0 && result < 0 && !is_child()))
+        violation("result %d with records of %zu words", (int)result, size);
+    for (size_t i = 0; i < size; i++) {
+        uint32_t word = word_in(RECORDS, i);
+        if (word >> 28 == 1 && (word & 0xFFFFFF) != ++number)
+            violation("result %d with a record of number %u", (int)result, (unsigned)(word & 0xFFFFFF));
+    }
+    memcpy(&last, areas[MAIN_NUMBER].start, sizeof last);
+    if (last != number)
+        violation("result %d with %zu words of records, and the main's number goes from %llu to %llu", (int)result, size,
+                  (unsigned long long)turn.first, (unsigned long long)last);
 }
 
 /* The result and every lent byte must be as expected. */
@@ -208,12 +278,14 @@ static int32_t settle(int32_t result, int32_t expected)
 {
 #ifdef BREAK
     result = broken(result);
-    if (is_without_model())
-        return result;
 #endif
-    hold_to_header(result);
-    hold_to_model(result, expected);
-    count_result(result);
+    if (!is_without_model()) {
+        hold_to_header(result);
+        hold_to_model(result, expected);
+        count_result(result);
+    }
+    if (turn.linked != NULL)
+        hold_to_numbers(result);
     return result;
 }
 
@@ -324,6 +396,48 @@ static size_t text_space(void)
     return one_in(6) ? sizes[below(sizeof sizes / sizeof sizes[0])] : TEXT_BYTES + below(2);
 }
 
+/* The words that a linked call with so many items must be lent. */
+static size_t least_record_space(size_t items)
+{
+    return RECORD_WORDS * (items > 0 ? items : 1);
+}
+
+/* As many, or some other number. */
+static size_t record_space(size_t items)
+{
+    size_t least = least_record_space(items);
+
+    if (!one_in(6))
+        return least;
+    switch (below(6)) {
+    case 0: return least - 1;
+    case 1: return least + 1;
+    case 2: return 0;
+    case 3: return RECORD_WORDS;
+    case 4: return below((uint32_t)least);
+    default: return least + RECORD_WORDS;
+    }
+}
+
+/* Half of the calls are linked: these get a number and a record space too. */
+static void lend_link(size_t items)
+{
+    if (one_in(2))
+        return;
+    turn.linked = &turn.link;
+    turn.link.number = turn.first = make_main_number();
+    turn.link.size = 0;
+    turn.number = lend(MAIN_NUMBER, &turn.first, sizeof turn.first);
+    turn.records_space = record_space(items);
+    turn.records = lend(RECORDS, NULL, turn.records_space * sizeof turn.records[0]);
+    turn.records_size = lend(NUMBER_3, NULL, sizeof *turn.records_size);
+}
+
+static int lacks_record_space(size_t items)
+{
+    return turn.linked != NULL && turn.records_space < least_record_space(items);
+}
+
 /* ---- a table: fresh, insert, switches, used, head, entry */
 
 static void run_fresh(void)
@@ -346,41 +460,78 @@ static void run_fresh(void)
     keep_table();
 }
 
+static int32_t expected_insert(uint32_t kind)
+{
+    if (!turn.holds)
+        return -1;
+    if (lacks_record_space(1))
+        return -2;
+    if (kind >= KINDS)
+        return -3;
+    if (turn.cause != 0)
+        return -turn.cause;
+    return model_insert(&turn.after, kind, turn.path, turn.linked);
+}
+
+static int32_t call_insert(uint32_t kind)
+{
+    next(turn.linked != NULL ? LINKED_INSERT : INSERT);
+    if (turn.linked != NULL)
+        return permissions_linked_insert(turn.memory, turn.memory_size, turn.number, kind, turn.given.start, turn.given.size,
+                                         turn.directory.start, turn.directory.size, turn.records, turn.records_space,
+                                         turn.records_size);
+    return permissions_insert(turn.memory, turn.memory_size, kind, turn.given.start, turn.given.size, turn.directory.start,
+                              turn.directory.size);
+}
+
 static void run_insert(void)
 {
     uint32_t kind = make_number(KINDS);
-    int32_t expected = -1;
+    int32_t expected;
 
     lend_memory();
     lend_path();
-    if (turn.holds && kind >= KINDS)
-        expected = -3;
-    else if (turn.holds && turn.cause != 0)
-        expected = -turn.cause;
-    else if (turn.holds)
-        expected = model_insert(&turn.after, kind, turn.path);
+    lend_link(1);
+    expected = expected_insert(kind);
     if (expected == 0)
         want_table(MEMORY, &turn.after);
-    next(INSERT);
-    (void)settle(permissions_insert(turn.memory, turn.memory_size, kind, turn.given.start, turn.given.size,
-                              turn.directory.start, turn.directory.size), expected);
+    want_sent();
+    (void)settle(call_insert(kind), expected);
     keep_table();
+}
+
+static int32_t expected_switches(uint32_t switches)
+{
+    if (!turn.holds)
+        return -1;
+    if (lacks_record_space(1))
+        return -2;
+    if (switches >= SWITCHES)
+        return -3;
+    return model_switches(&turn.after, switches, turn.linked);
+}
+
+static int32_t call_switches(uint32_t switches)
+{
+    next(turn.linked != NULL ? LINKED_SWITCHES : SET_SWITCHES);
+    if (turn.linked != NULL)
+        return permissions_linked_switches(turn.memory, turn.memory_size, turn.number, switches, turn.records,
+                                           turn.records_space, turn.records_size);
+    return permissions_switches(turn.memory, turn.memory_size, switches);
 }
 
 static void run_switches(void)
 {
     uint32_t switches = one_in(3) ? make_number(SWITCHES) : SWITCH_PROMPT | below(2); /* 16 lets calls ask */
-    int32_t expected = -1;
+    int32_t expected;
 
     lend_memory();
-    if (turn.holds)
-        expected = switches >= SWITCHES ? -3 : 0;
-    if (expected == 0) {
-        turn.after.switches = switches;
+    lend_link(1);
+    expected = expected_switches(switches);
+    if (expected == 0)
         want_table(MEMORY, &turn.after);
-    }
-    next(SET_SWITCHES);
-    (void)settle(permissions_switches(turn.memory, turn.memory_size, switches), expected);
+    want_sent();
+    (void)settle(call_switches(switches), expected);
     keep_table();
 }
 
@@ -465,27 +616,50 @@ static void run_query(void)
     keep_table();
 }
 
+static int32_t expected_revoke(int with_path)
+{
+    if (!turn.holds)
+        return -1;
+    if (lacks_record_space(1))
+        return -2;
+    if (with_path && turn.cause != 0)
+        return -turn.cause;
+    return model_revoke(&turn.after, with_path ? &turn.path : NULL, turn.linked);
+}
+
+static int32_t call_revoke(int with_path)
+{
+    next((turn.linked != NULL ? LINKED_REVOKE : REVOKE) + !with_path);
+    switch (current) {
+    case REVOKE:
+        return permissions_revoke(turn.memory, turn.memory_size, turn.given.start, turn.given.size, turn.directory.start,
+                                  turn.directory.size);
+    case REVOKE_ALL:
+        return permissions_revoke_all(turn.memory, turn.memory_size);
+    case LINKED_REVOKE:
+        return permissions_linked_revoke(turn.memory, turn.memory_size, turn.number, turn.given.start, turn.given.size,
+                                         turn.directory.start, turn.directory.size, turn.records, turn.records_space,
+                                         turn.records_size);
+    default:
+        return permissions_linked_revoke_all(turn.memory, turn.memory_size, turn.number, turn.records, turn.records_space,
+                                             turn.records_size);
+    }
+}
+
 static void run_revoke(void)
 {
     int with_path = !one_in(5);
-    int32_t expected = -1, result;
+    int32_t expected;
 
     lend_memory();
     if (with_path)
         lend_path();
-    if (turn.holds && with_path && turn.cause != 0)
-        expected = -turn.cause;
-    else if (turn.holds)
-        expected = model_revoke(&turn.after, with_path ? &turn.path : NULL);
+    lend_link(1);
+    expected = expected_revoke(with_path);
     if (expected >= 0)
         want_table(MEMORY, &turn.after);
-    next(with_path ? REVOKE : REVOKE_ALL);
-    if (with_path)
-        result = permissions_revoke(turn.memory, turn.memory_size, turn.given.start, turn.given.size,
-                                    turn.directory.start, turn.directory.size);
-    else
-        result = permissions_revoke_all(turn.memory, turn.memory_size);
-    (void)settle(result, expected);
+    want_sent();
+    (void)settle(call_revoke(with_path), expected);
     keep_table();
 }
 
@@ -508,7 +682,7 @@ static int32_t refused_by_arguments(const struct asking *asking)
 {
     if (!turn.holds)
         return -1;
-    if (turn.text_space < TEXT_BYTES)
+    if (turn.text_space < TEXT_BYTES || lacks_record_space(1))
         return -2;
     if (asking->answer >= ANSWERS)
         return -3;
@@ -571,7 +745,7 @@ static void put_question(struct asking asking, struct question *question)
     memcpy(question->text, areas[TEXT].start, question->size);
 }
 
-static int32_t call_ask(const struct asking *asking, uint32_t *asked, size_t *text_size)
+static int32_t call_plain_ask(const struct asking *asking, uint32_t *asked, size_t *text_size)
 {
     void *memory = turn.memory;
     const void *path = turn.given.start, *directory = turn.directory.start;
@@ -592,6 +766,31 @@ static int32_t call_ask(const struct asking *asking, uint32_t *asked, size_t *te
     }
 }
 
+static int32_t call_linked_ask(const struct asking *asking, uint32_t *asked, size_t *text_size)
+{
+    void *memory = turn.memory;
+    const void *path = turn.given.start, *directory = turn.directory.start;
+    size_t size = turn.memory_size, path_size = turn.given.size, directory_size = turn.directory.size;
+
+    next((asking->call == CHECK ? LINKED_CHECK : LINKED_REQUEST) + !asking->with_path);
+    switch (current) {
+    case LINKED_CHECK:
+        return permissions_linked_check(memory, size, turn.number, path, path_size, directory, directory_size,
+                                        asking->answer, turn.text, turn.text_space, turn.records, turn.records_space, asked,
+                                        text_size, turn.records_size);
+    case LINKED_REQUEST:
+        return permissions_linked_request(memory, size, turn.number, path, path_size, directory, directory_size,
+                                          asking->answer, turn.text, turn.text_space, turn.records, turn.records_space,
+                                          asked, text_size, turn.records_size);
+    case LINKED_CHECK_ALL:
+        return permissions_linked_check_all(memory, size, turn.number, asking->answer, turn.text, turn.text_space,
+                                            turn.records, turn.records_space, asked, text_size, turn.records_size);
+    default:
+        return permissions_linked_request_all(memory, size, turn.number, asking->answer, turn.text, turn.text_space,
+                                              turn.records, turn.records_space, asked, text_size, turn.records_size);
+    }
+}
+
 static int32_t ask(const struct asking *asking)
 {
     size_t *text_size = lend_text();
@@ -600,16 +799,19 @@ static int32_t ask(const struct asking *asking)
     int32_t expected = refused_by_arguments(asking);
 
     if (expected == 0)
-        expected = model_ask(&turn.after, asking->call, asking->with_path ? &turn.path : NULL, asking->answer,
+        expected = model_ask(&turn.after, asking->call, asking->with_path ? &turn.path : NULL, asking->answer, turn.linked,
                              &asked_expected);
     if (expected >= 0)
         want_table(MEMORY, &turn.after);
     want_number(NUMBER, asked_expected);
     want_text(asking, asked_expected == 1 || (asking->call == CHECK && expected > 0));
-    return settle(call_ask(asking, asked, text_size), expected);
+    want_sent();
+    if (turn.linked != NULL)
+        return settle(call_linked_ask(asking, asked, text_size), expected);
+    return settle(call_plain_ask(asking, asked, text_size), expected);
 }
 
-/* The question and the call agree, whatever the model; only 3 and 8 can come between. */
+/* The question and the call agree, whatever the model; only 3, 8 and, of a linked call, 2 and 9 can come between. */
 static void hold_to_question(int32_t result, const struct question *question)
 {
     uint32_t asked = number_in(NUMBER);
@@ -619,7 +821,7 @@ static void hold_to_question(int32_t result, const struct question *question)
         violation("asked %u times, with a text of %zu bytes", (unsigned)asked, size);
     if (size > 0 && (size < 11 || memcmp(areas[TEXT].start, "read access", 11) != 0))
         violation("a text of %zu bytes that does not begin with its words", size);
-    if (result == -3 || result == -8)
+    if (result == -3 || result == -8 || (turn.linked != NULL && (result == -2 || result == -9)))
         return;
     if (result < 0 ? question->result != result : question->result != (int32_t)asked)
         violation("the question before it said %d", (int)question->result);
@@ -641,6 +843,7 @@ static void run_ask(void)
     put_question(asking, &question);
     areas[TEXT].lent = areas[NUMBER_2].lent = 0;
     state = query(asking.call == REQUEST ? MODE_PARTIAL : asking.with_path ? MODE_DENIED : MODE_GRANTED, asking.with_path);
+    lend_link(1);
     result = ask(&asking);
     hold_to_question(result, &question);
     if (result == 0 && state != GRANTED && (number_in(NUMBER) == 0 || asking.answer == DENY))
@@ -706,16 +909,25 @@ static void lend_items(struct child_call *call)
     call->directory.start = lend(DIRECTORY, directory, call->directory.size);
 }
 
+static int32_t refused_child_arguments(const struct child_call *call, size_t child_size)
+{
+    if (!turn.holds || child_size < TABLE_BYTES)
+        return -1;
+    if (lacks_record_space(call->ends_count))
+        return -2;
+    return model_child_arguments(call);
+}
+
 /* What the call must leave in both memories; its result. After 4 and on the child is fresh, and the parent keeps what
  * came before. */
 static int32_t want_child(const struct child_call *call, size_t child_size)
 {
     static struct table child;
     uint32_t asked = 0;
-    int32_t expected = turn.holds && child_size >= TABLE_BYTES ? model_child_arguments(call) : -1;
+    int32_t expected = refused_child_arguments(call, child_size);
 
     if (expected == 0) {
-        expected = model_child(&turn.after, &child, call, &asked);
+        expected = model_child(&turn.after, &child, call, turn.linked, &asked);
         want_table(MEMORY, &turn.after);
         if (expected != 0) {
             memset(wanted(CHILD), 0, 4);
@@ -726,7 +938,21 @@ static int32_t want_child(const struct child_call *call, size_t child_size)
         }
     }
     want_number(NUMBER, asked);
+    want_sent();
     return expected;
+}
+
+static int32_t call_child(const struct child_call *call, void *child, size_t child_size, uint32_t *asked)
+{
+    next(turn.linked != NULL ? LINKED_CHILD : MAKE_CHILD);
+    if (turn.linked != NULL)
+        return permissions_linked_child(turn.memory, turn.memory_size, turn.number, child, child_size, call->code,
+                                        call->items.start, call->items.size, call->ends, call->ends_count, call->answers,
+                                        call->answers_count, call->directory.start, call->directory.size, turn.records,
+                                        turn.records_space, asked, turn.records_size);
+    return permissions_child(turn.memory, turn.memory_size, child, child_size, call->code, call->items.start,
+                             call->items.size, call->ends, call->ends_count, call->answers, call->answers_count,
+                             call->directory.start, call->directory.size, asked);
 }
 
 static void run_child(void)
@@ -741,15 +967,12 @@ static void run_child(void)
     lend_memory();
     call.code = one_in(2) ? LIST : make_number(CODES);
     lend_items(&call);
+    lend_link(call.ends_count);
     expected = want_child(&call, child_size);
-    next(MAKE_CHILD);
-    result = permissions_child(turn.memory, turn.memory_size, child, child_size, call.code, call.items.start, call.items.size,
-                               call.ends, call.ends_count, call.answers, call.answers_count, call.directory.start,
-                               call.directory.size, asked);
-    result = settle(result, expected);
+    result = settle(call_child(&call, child, child_size, asked), expected);
     if (number_in(NUMBER) > (call.code == CHILD_GRANTED ? 1 : call.ends_count))
         violation("asked %u times", (unsigned)number_in(NUMBER));
-    if (result != -1 && result != -3 && !model_reads(areas[CHILD].start, child_size, &kept))
+    if ((result == 0 || result < -3) && !model_reads(areas[CHILD].start, child_size, &kept))
         violation("the child's memory holds no table");
     keep_table();
     if (result == 0 && one_in(4))
@@ -765,6 +988,7 @@ static void run_turn(void)
     void (*run)(void) = one_in(80) ? run_fresh : turns[below(sizeof turns / sizeof turns[0])];
 
     lend_none();
+    turn.linked = NULL;
     if (run == run_ask && call_limit - calls < 3)
         run = run_used; /* the other makes three calls */
     run();
@@ -787,7 +1011,7 @@ static void print_row(int function)
         sum += answers_seen[function][answer];
     for (int cause = 1; cause <= GREATEST_CAUSE; cause++)
         sum += causes_seen[function][cause];
-    printf("%-16s", functions[function].name);
+    printf("%-18s", functions[function].name);
     print_count(sum);
     for (int answer = 0; answer <= GREATEST_STATE + 1; answer++)
         print_count(answers_seen[function][answer]);
@@ -798,7 +1022,7 @@ static void print_row(int function)
 
 static void print_report(void)
 {
-    printf("%-16s   calls", "function");
+    printf("%-18s   calls", "function");
     for (int answer = 0; answer <= GREATEST_STATE; answer++)
         printf(" %7d", answer);
     printf("   above");
@@ -811,6 +1035,7 @@ static void print_report(void)
            tables_seen, full_by_entries, full_by_bytes, none_seen);
     printf("refusal 8 outside the child call: %lu with 256 entries, %lu by the sum of path lengths\n", refused_by_entries,
            refused_by_bytes);
+    printf("%lu records, %lu of them of refused child calls\n", records_seen, records_of_refused);
     printf("hostile: %lu calls, seed %lu, 0 violations\n", calls, seed);
 }
 

@@ -60,6 +60,19 @@ uint32_t make_number(uint32_t known)
     }
 }
 
+uint64_t make_main_number(void)
+{
+    if (!one_in(4))
+        return below(MAX_NUMBER);
+    switch (below(5)) {
+    case 0: return MAX_NUMBER - below(4);
+    case 1: return MAX_NUMBER - below(2 * MAX_ITEMS); /* used up on the way through a child's items */
+    case 2: return MAX_NUMBER + 1 + below(3);
+    case 3: return (UINT64_C(1) << (24 + below(40))) + below(3); /* small to whoever looks at its low bits alone */
+    default: return UINT64_MAX - below(3);
+    }
+}
+
 /* ---- paths */
 
 static size_t put_text(uint8_t *bytes, const char *text)
@@ -201,7 +214,7 @@ static void add_entry(struct table *table, uint32_t kind, struct bytes path, int
     static const uint32_t marks[KINDS] = {0, 1, 2, 4};
 
     if (placed) {
-        (void)model_insert(table, kind, path);
+        (void)model_insert(table, kind, path, NULL);
     } else if (table->count < MAX_ENTRIES && table->sum + path.size <= MAX_SUM) {
         struct entry entry = {kind, path};
         table->entries[table->count++] = entry;

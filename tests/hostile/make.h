@@ -22,6 +22,9 @@ void make_noise(uint8_t *bytes, size_t size);
 /* Mostly below `known`, else a number that is close to one, or huge. */
 uint32_t make_number(uint32_t known);
 
+/* A number of the main's: mostly one that is left, else next to the limit or far above it. */
+uint64_t make_main_number(void);
+
 /* At most LONGEST_PATH bytes; their count. */
 size_t make_path(uint8_t *path, int style);
 size_t make_directory(uint8_t *directory);

@@ -1,4 +1,4 @@
-/* Document 01 in plain C, from the bottom up: paths, a table in memory, placing, the walk, the calls, the child. */
+/* Document 01 in plain C, from the bottom up: paths, a table in memory, records, acts, the walk, the calls, the child. */
 #include "model.h"
 
 #include <string.h>
@@ -176,6 +176,59 @@ void model_writes(const struct table *table, uint8_t *memory)
     }
 }
 
+/* ---- records */
+
+enum { HEAD = 1, LENGTH, PATH_BYTES, SWITCHES_WORD };
+enum { ACT_SWITCHES = 5, ACT_REVOKE, ACT_REVOKE_ALL };
+
+static uint32_t act_of_insert(uint32_t kind)
+{
+    static const uint32_t acts[KINDS] = {1, 2, 4, 3}; /* acts go G, D, I, P */
+    return acts[kind];
+}
+
+static void add_word(struct link *link, uint32_t kind, uint32_t below)
+{
+    link->words[link->size++] = kind << 28 | below;
+}
+
+/* Numbers an act and writes its record's head; -9 where its number would be too great. A plain call records nothing. */
+static int add_head(struct link *link, uint32_t act)
+{
+    if (link == NULL)
+        return 0;
+    if (link->number >= MAX_NUMBER)
+        return -9;
+    link->number++;
+    add_word(link, HEAD, act << 24 | (uint32_t)link->number);
+    return 0;
+}
+
+static int record_path(struct link *link, uint32_t act, struct bytes path)
+{
+    int refused = add_head(link, act);
+
+    if (link == NULL || refused != 0)
+        return refused;
+    add_word(link, LENGTH, (uint32_t)path.size);
+    for (size_t at = 0; at < path.size; at += 3) {
+        uint32_t three = 0;
+        for (size_t i = at; i < at + 3; i++)
+            three = three << 8 | (i < path.size ? path.start[i] : 0u);
+        add_word(link, PATH_BYTES, three);
+    }
+    return 0;
+}
+
+static int record_switches(struct link *link, uint32_t switches)
+{
+    int refused = add_head(link, ACT_SWITCHES);
+
+    if (link != NULL && refused == 0)
+        add_word(link, SWITCHES_WORD, switches);
+    return refused;
+}
+
 /* ---- placing an entry */
 
 static int strictly_extends(struct bytes a, struct bytes b)
@@ -225,14 +278,19 @@ static size_t place_of(const struct table *table, const struct entry *new)
     return order < 0 ? base + 1 : base;
 }
 
-int model_insert(struct table *table, uint32_t kind, struct bytes path)
+int model_insert(struct table *table, uint32_t kind, struct bytes path, struct link *link)
 {
     struct entry new = {kind, path};
     size_t place = place_of(table, &new);
+    int adds = place <= MAX_ENTRIES;
+    int refused;
 
-    if (place <= MAX_ENTRIES) {
-        if (table->count == MAX_ENTRIES || table->sum + path.size > MAX_SUM)
-            return -8;
+    if (adds && (table->count == MAX_ENTRIES || table->sum + path.size > MAX_SUM))
+        return -8;
+    refused = record_path(link, act_of_insert(kind), path);
+    if (refused != 0)
+        return refused;
+    if (adds) {
         memmove(&table->entries[place + 1], &table->entries[place], (table->count - place) * sizeof new);
         table->entries[place] = new;
         table->count++;
@@ -240,6 +298,15 @@ int model_insert(struct table *table, uint32_t kind, struct bytes path)
     }
     table->marks |= mark_of(kind);
     return 0;
+}
+
+int model_switches(struct table *table, uint32_t switches, struct link *link)
+{
+    int refused = record_switches(link, switches);
+
+    if (refused == 0)
+        table->switches = switches;
+    return refused;
 }
 
 /* ---- the walk */
@@ -307,34 +374,32 @@ int model_asks(const struct table *table, int call, const struct bytes *path)
     return state_before(table, call, path) == PROMPT && (table->switches & SWITCH_PROMPT) != 0;
 }
 
-static int grant(struct table *table, const struct bytes *path)
+static int grant(struct table *table, const struct bytes *path, struct link *link)
 {
     if (path != NULL)
-        return model_insert(table, KIND_G, *path);
-    table->switches |= SWITCH_GRANTED;
-    return 0;
+        return model_insert(table, KIND_G, *path, link);
+    return model_switches(table, table->switches | SWITCH_GRANTED, link);
 }
 
-static int answered(struct table *table, const struct bytes *path, uint32_t answer)
+static int answered(struct table *table, const struct bytes *path, uint32_t answer, struct link *link)
 {
     if (answer == ALLOW)
-        return grant(table, path);
+        return grant(table, path, link);
     if (answer == ALLOW_ALL)
-        return grant(table, NULL);
+        return grant(table, NULL, link);
     if (path != NULL)
-        return model_insert(table, KIND_P, *path);
-    table->switches |= SWITCH_PROMPT_DENIED;
-    return 0;
+        return model_insert(table, KIND_P, *path, link);
+    return model_switches(table, table->switches | SWITCH_PROMPT_DENIED, link);
 }
 
-int model_ask(struct table *table, int call, const struct bytes *path, uint32_t answer, uint32_t *asked)
+int model_ask(struct table *table, int call, const struct bytes *path, uint32_t answer, struct link *link, uint32_t *asked)
 {
     int state = state_before(table, call, path);
     int refused;
 
     *asked = 0;
     if (model_asks(table, call, path)) {
-        refused = answered(table, path, answer);
+        refused = answered(table, path, answer, link);
         if (refused != 0)
             return refused;
         *asked = 1;
@@ -343,14 +408,17 @@ int model_ask(struct table *table, int call, const struct bytes *path, uint32_t 
     if (call == CHECK)
         return state;
     if (state == GRANTED)
-        return grant(table, path);
+        return grant(table, path, link);
     return state == PROMPT ? DENIED : state;
 }
 
-int model_revoke(struct table *table, const struct bytes *path)
+int model_revoke(struct table *table, const struct bytes *path, struct link *link)
 {
     size_t kept = 0;
+    int refused = path != NULL ? record_path(link, ACT_REVOKE, *path) : add_head(link, ACT_REVOKE_ALL);
 
+    if (refused != 0)
+        return refused;
     for (size_t i = 0; i < table->count; i++) {
         struct entry entry = table->entries[i];
         if (entry.kind == KIND_G && (path == NULL || is_prefix(entry.path, *path)))
@@ -412,18 +480,20 @@ int model_child_arguments(const struct child_call *call)
 }
 
 /* The parent's check of an item, then 10, then the child's grant; `asked` grows by a check that came to an end. */
-static int child_item(struct table *parent, struct table *child, const struct bytes *path, uint32_t answer, uint32_t *asked)
+static int child_item(struct table *parent, struct table *child, const struct bytes *path, uint32_t answer,
+                      struct link *link, uint32_t *asked)
 {
     uint32_t once;
-    int state = model_ask(parent, CHECK, path, answer, &once);
+    int state = model_ask(parent, CHECK, path, answer, link, &once);
 
     *asked += once;
     if (state != GRANTED)
         return state < 0 ? state : -10;
-    return grant(child, path);
+    return grant(child, path, NULL);
 }
 
-static int child_list(struct table *parent, struct table *child, const struct child_call *call, uint32_t *asked)
+static int child_list(struct table *parent, struct table *child, const struct child_call *call, struct link *link,
+                      uint32_t *asked)
 {
     static struct path resolved[MAX_ITEMS]; /* the tables point here */
     size_t from = 0;
@@ -436,13 +506,14 @@ static int child_list(struct table *parent, struct table *child, const struct ch
         path.start = resolved[i].bytes;
         path.size = resolved[i].size;
         if (refused == 0)
-            refused = child_item(parent, child, &path, call->answers[i], asked);
+            refused = child_item(parent, child, &path, call->answers[i], link, asked);
         from = call->ends[i];
     }
     return refused;
 }
 
-int model_child(struct table *parent, struct table *child, const struct child_call *call, uint32_t *asked)
+int model_child(struct table *parent, struct table *child, const struct child_call *call, struct link *link,
+                uint32_t *asked)
 {
     int refused = 0;
 
@@ -452,12 +523,12 @@ int model_child(struct table *parent, struct table *child, const struct child_ca
     if (call->code == INHERIT)
         *child = *parent;
     else if (call->code == CHILD_GRANTED)
-        refused = child_item(parent, child, NULL, call->answers[0], asked);
+        refused = child_item(parent, child, NULL, call->answers[0], link, asked);
     else if (call->code == LIST)
-        refused = child_list(parent, child, call, asked);
+        refused = child_list(parent, child, call, link, asked);
     child->switches = (child->switches & SWITCH_GRANTED) | (parent->switches & ~(uint32_t)SWITCH_GRANTED);
     for (size_t i = 0; i < parent->count && refused == 0; i++)
         if (parent->entries[i].kind != KIND_G)
-            refused = model_insert(child, parent->entries[i].kind, parent->entries[i].path);
+            refused = model_insert(child, parent->entries[i].kind, parent->entries[i].path, NULL);
     return refused;
 }

@@ -12,7 +12,9 @@ enum {
     MAX_ENTRIES = 256,
     MAX_PATH = 1024,
     MAX_SUM = 32768,
-    MAX_ITEMS = 64
+    MAX_ITEMS = 64,
+    RECORD_WORDS = 344, /* of the record space, for each child item */
+    MAX_NUMBER = 16777215
 };
 
 enum { KIND_G, KIND_D, KIND_P, KIND_I, KINDS };
@@ -45,6 +47,13 @@ struct table {
     struct entry entries[MAX_ENTRIES];
 };
 
+/* What a linked call sends: the main's number, which each act raises, and the words of the records. */
+struct link {
+    uint64_t number;
+    size_t size;
+    uint32_t words[MAX_ITEMS * RECORD_WORDS];
+};
+
 struct child_call {
     uint32_t code;
     struct bytes items;
@@ -63,12 +72,14 @@ void model_writes(const struct table *table, uint8_t *memory);
 /* 0, or the cause from 4 to 7. */
 int model_resolve(struct bytes given, struct bytes directory, struct path *resolved);
 
-/* A resolved path, or NULL for the call with no path. Results as in permissions.h: a state, 0, or minus the cause. */
+/* A resolved path, or NULL for the call with no path. The link is NULL for a plain call. Results as in permissions.h: a
+ * state, 0, or minus the cause. */
 int model_query(const struct table *table, uint32_t mode, const struct bytes *path);
-int model_insert(struct table *table, uint32_t kind, struct bytes path);
+int model_insert(struct table *table, uint32_t kind, struct bytes path, struct link *link);
+int model_switches(struct table *table, uint32_t switches, struct link *link);
 int model_asks(const struct table *table, int call, const struct bytes *path);
-int model_ask(struct table *table, int call, const struct bytes *path, uint32_t answer, uint32_t *asked);
-int model_revoke(struct table *table, const struct bytes *path);
+int model_ask(struct table *table, int call, const struct bytes *path, uint32_t answer, struct link *link, uint32_t *asked);
+int model_revoke(struct table *table, const struct bytes *path, struct link *link);
 
 /* The text about a path as given and as resolved, or with no path if `given` is NULL; its size. */
 size_t model_text(const struct bytes *given, const struct path *resolved, uint8_t *text);
@@ -76,6 +87,7 @@ size_t model_text(const struct bytes *given, const struct path *resolved, uint8_
 /* 0 where the arguments are in order, else -3. */
 int model_child_arguments(const struct child_call *call);
 /* Makes a child of arguments in order. Both tables may point into memory that lives until the next call. */
-int model_child(struct table *parent, struct table *child, const struct child_call *call, uint32_t *asked);
+int model_child(struct table *parent, struct table *child, const struct child_call *call, struct link *link,
+                uint32_t *asked);
 
 #endif

@@ -22,12 +22,7 @@ fn arrival_number(answer: Arrival) -> i32
 
 // Takes the record that the lent words are.
 #[no_mangle]
-pub extern "C" fn permissions_arrive(
-    mem: &mut [u8],
-    n: &mut u64,
-    h: &mut u64,
-    words: &[u32],
-) -> i32
+pub extern "C" fn permissions_arrive(mem: &mut [u8], n: &mut u64, h: &mut u64, words: &[u32]) -> i32
     ensures { λ r. ⌜ ExportedArrive (now (mem .entry)) (now (words .entry)) (now (n .entry)) (now (h .entry)) (now (mem .exit)) (now (n .exit)) (now (h .exit)) r ⌝ }
 {
     let arrived = arrive(mem, words, Numbers { n: *n, h: *h });

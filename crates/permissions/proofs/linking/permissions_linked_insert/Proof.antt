@@ -1,0 +1,27 @@
+-- `permissions_linked_insert` meets its contract.
+use mathlib.Core.Path.{refl, _∙_}
+use mir.Syntax.{w32}
+use Rattle.table.proofs.ComparisonLaws.{read-back}
+use borrow.Author.Needs.{needs}
+use Rattle.permissions.proofs.linking.permissions_linked_insert.Statement.{statement}
+use Rattle.permissions.proofs.linking.permissions_linked_insert.Tie as tie
+
+insert-requires : tie.Need-insert-requires
+insert-requires c κs = search needs
+
+outcome-number-requires : tie.Need-outcome-number-requires
+outcome-number-requires c κs = search needs
+
+same-length : tie.Need-same-length
+same-length c = search needs
+
+same-length-2 : tie.Need-same-length-2
+same-length-2 c = search needs
+
+returns : tie.Need-returns
+returns c =
+    let made = c .before .before .before .before .before .insert in
+    record { answered = made .result; promise = made .ensures; number = read-back w32 _ (c .outcome-number .ok) ∙ c .outcome-number .ensures; words = refl }
+
+pub permissions-linked-insert-spec : {M : Type 1} → statement M
+permissions-linked-insert-spec = tie.close (tie.spec insert-requires outcome-number-requires same-length same-length-2 returns)

@@ -8,9 +8,10 @@
 
 enum { LEAD_BYTES = 32 };
 
-/* Those from PATH to RESPONSES are only read; NUMBER and on are numbers that every call writes. */
+/* Those from PATH to WORDS are only read; NUMBER and on are numbers that every call writes. */
 enum {
-    MEMORY, CHILD, TEXT, RECORDS, MAIN_NUMBER, PATH, DIRECTORY, ITEMS, ENDS, RESPONSES, NUMBER, NUMBER_2, NUMBER_3, AREAS
+    MEMORY, CHILD, TEXT, RECORDS, MAIN_NUMBER, LAST, HIGHEST, PATH, DIRECTORY, ITEMS, ENDS, RESPONSES, WORDS, NUMBER,
+    NUMBER_2, NUMBER_3, AREAS
 };
 
 struct area {

@@ -1,7 +1,7 @@
 /* Faults that a build with -DBREAK puts into what a call did, one at a time, by a third argument: hostile CALLS SEED FAULT.
  * From FIRST_WITHOUT_MODEL on nothing is held against the model, so that what calls say of each other must notice the
  * fault. tests/hostile-test sees that each up to LAST_FAULT is noticed. */
-enum { FIRST_BROKEN_CALL = 1000, FIRST_WITHOUT_MODEL = 33, LAST_FAULT = 41 };
+enum { FIRST_BROKEN_CALL = 1000, FIRST_WITHOUT_MODEL = 59, LAST_FAULT = 74 };
 
 static unsigned long fault;
 
@@ -32,14 +32,94 @@ static void hide_records(void)
     memset(areas[NUMBER_3].start, 0, sizeof(size_t));
 }
 
+static void set_long(int area, uint64_t number)
+{
+    memcpy(areas[area].start, &number, sizeof number);
+}
+
 static void skip_number(void)
 {
-    uint64_t number;
-
-    memcpy(&number, areas[MAIN_NUMBER].start, sizeof number);
-    number++;
-    memcpy(areas[MAIN_NUMBER].start, &number, sizeof number);
+    set_long(MAIN_NUMBER, long_in(MAIN_NUMBER) + 1);
 }
+
+/* ---- arrivals */
+
+/* An arrival with this one result. */
+static int arrives(int32_t result, int32_t one)
+{
+    return current == ARRIVE && result == one;
+}
+
+static void restore_memory(void)
+{
+    memcpy(areas[MEMORY].start, standby_slot.bytes, turn.memory_size);
+}
+
+/* Does the act, whatever its number. */
+static void do_anyway(void)
+{
+    uint64_t last = arriving_number() - 1u, highest = last;
+
+    if (permissions_arrive(turn.memory, turn.memory_size, &last, &highest, turn.words, turn.words_size) < 0)
+        restore_memory();
+}
+
+static int is_malformed(void)
+{
+    static struct table table;
+    struct standby standby = {MAX_NUMBER, MAX_NUMBER};
+
+    return model_arrive(&table, &standby, turn.words, turn.words_size) == -11;
+}
+
+/* The next one to whoever looks at the low 24 bits of n alone. */
+static int looks_next(void)
+{
+    return ((turn.had.last + 1) & MAX_NUMBER) == arriving_number();
+}
+
+/* The next one said to be early, and left. */
+static void put_off(void)
+{
+    restore_memory();
+    set_long(LAST, turn.had.last);
+}
+
+static int owes(void)
+{
+    return current == OWED && turn.had.last < turn.had.highest;
+}
+
+/* Faults of arrivals and of what is owed, in the lent areas. */
+static void break_standby(int32_t result)
+{
+    switch (fault) {
+    case 33: if (arrives(result, APPLIED)) restore_memory(); break;                       /* n raised, and nothing applied */
+    case 34: if (arrives(result, APPLIED)) set_long(LAST, long_in(LAST) + 1); break;      /* n raised by two */
+    case 35: if (arrives(result, APPLIED)) set_long(LAST, turn.had.last); break;          /* applied, and n not raised */
+    case 36: if (arrives(result, APPLIED)) set_long(HIGHEST, long_in(LAST)); break;       /* h falls to n */
+    case 37: if (arrives(result, EARLY)) set_long(HIGHEST, turn.had.highest); break;      /* an early one not heard of */
+    case 38: if (arrives(result, EARLY)) set_long(HIGHEST, arriving_number()); break;     /* h falls to an early one */
+    case 39: if (arrives(result, -11)) set_long(HIGHEST, turn.had.highest + 1); break;    /* h raised by a refusal */
+    case 40: if (arrives(result, -8)) set_long(HIGHEST, arriving_number()); break;        /* the same by a full table */
+    case 41: if (arrives(result, -8)) set_long(LAST, arriving_number()); break;           /* n raised by a refusal */
+    case 42: if (arrives(result, REPEAT)) do_anyway(); break;                             /* a repeat applied */
+    case 43: if (arrives(result, EARLY)) do_anyway(); break;                              /* an early one applied */
+    case 44: if (arrives(result, -11)) change(WORDS, 0); break;                           /* a word that is only read */
+    case 45: if (owes()) set_long(NUMBER, 0); break;                                      /* nothing owed */
+    case 46: if (owes()) set_long(NUMBER, turn.had.highest - turn.had.last + 1); break;   /* too much owed */
+    case 47: if (current == OWED && !owes()) change(NUMBER, 0); break;                    /* owed with h not above n */
+    case 68: if (arrives(result, APPLIED) && arriving_number() > 1) restore_memory(); break; /* change 1 alone applied */
+    case 69: if (arrives(result, APPLIED)) set_long(LAST, long_in(LAST) + 1); break;      /* an invented n */
+    case 70: if (arrives(result, APPLIED)) put_off(); break;                              /* Early said to number n + 1 */
+    case 71: if (arrives(result, -11)) set_long(HIGHEST, turn.had.highest + 1); break;    /* h raised by a refusal */
+    case 72: if (arrives(result, REPEAT)) do_anyway(); break;                             /* a repeat applied */
+    case 73: if (arrives(result, EARLY)) do_anyway(); break;                              /* an early one applied */
+    case 74: if (owes()) set_long(NUMBER, 0); break;                                      /* nothing owed */
+    }
+}
+
+/* ---- all calls */
 
 /* Faults in the lent areas. */
 static void break_areas(int32_t result)
@@ -68,14 +148,14 @@ static void break_areas(int32_t result)
     case 26: if (has_records()) skip_number(); break;                              /* a number left out */
     case 27: if (turn.linked != NULL && result < 0) skip_number(); break;          /* a refusal takes a number */
     case 28: if (current == LINKED_CHILD && result < -3) hide_records(); break;    /* a refused child's records not told */
-    case 33: if (is_asking() && result >= 0) change(NUMBER, 0); break;             /* asked turned round */
-    case 34: if (is_asking() && has_text()) change(TEXT, 4); break;                /* other words */
-    case 35: if (is_asking() && has_text()) change(TEXT, 16); break;               /* another name than in the question */
-    case 36: if (current == INSERT && result == 0) change(MEMORY, 3); break;       /* a wrong mark */
-    case 37: if (current == MAKE_CHILD && result < -3) change(CHILD, 1); break;    /* a refused child with an entry */
-    case 38: if (has_records()) skip_number(); break;                              /* a number left out */
-    case 39: if (has_records()) hide_records(); break;                             /* records not told */
-    case 40: if (has_records()) change(RECORDS, 0); break;                         /* another number */
+    case 59: if (is_asking() && result >= 0) change(NUMBER, 0); break;             /* asked turned round */
+    case 60: if (is_asking() && has_text()) change(TEXT, 4); break;                /* other words */
+    case 61: if (is_asking() && has_text()) change(TEXT, 16); break;               /* another name than in the question */
+    case 62: if (current == INSERT && result == 0) change(MEMORY, 3); break;       /* a wrong mark */
+    case 63: if (current == MAKE_CHILD && result < -3) change(CHILD, 1); break;    /* a refused child with an entry */
+    case 64: if (has_records()) skip_number(); break;                              /* a number left out */
+    case 65: if (has_records()) hide_records(); break;                             /* records not told */
+    case 66: if (has_records()) change(RECORDS, 0); break;                         /* another number */
     }
 }
 
@@ -85,6 +165,7 @@ static int32_t broken(int32_t result)
     if (calls < FIRST_BROKEN_CALL)
         return result;
     break_areas(result);
+    break_standby(result);
     switch (fault) {
     case 14: return current == CHECK_PATH && result > 0 ? 0 : result;     /* a check that fails passes */
     case 15: return result == -8 ? 0 : result;                            /* a full table is no refusal */
@@ -97,7 +178,19 @@ static int32_t broken(int32_t result)
     case 30: return result == -2 && turn.linked != NULL ? 0 : result;     /* nor is too small a record space */
     case 31: return result == -8 && turn.linked != NULL && turn.first >= MAX_NUMBER ? -9 : result; /* 9 before 8 */
     case 32: return current == LINKED_REVOKE && result == -9 ? PROMPT : result; /* a revoke that needs no number */
-    case 41: return current == CHECK_PATH && result > 0 ? 0 : result;     /* a check that fails passes */
+    case 48: return arrives(result, APPLIED) ? EARLY : result;            /* Early said to number n + 1 */
+    case 49: return arrives(result, -11) ? APPLIED : result;              /* a malformed record taken */
+    case 50: return arrives(result, EARLY) && is_full_for_record() ? -8 : result;  /* 8 said to an early one */
+    case 51: return arrives(result, REPEAT) && is_full_for_record() ? -8 : result; /* 8 said to a repeat */
+    case 52: return arrives(result, -8) ? APPLIED : result;               /* a full table is no refusal */
+    case 53: return arrives(result, -1) && turn.holds ? REPEAT : result;  /* nor is n above h */
+    case 54: return arrives(result, -1) && is_malformed() ? -11 : result; /* 11 before 1 */
+    case 55: return arrives(result, -11) && arriving_number() <= turn.had.last ? REPEAT : result; /* Repeat before 11 */
+    case 56: return arrives(result, REPEAT) && looks_next() ? APPLIED : result; /* n by its low bits */
+    case 57: return current == OWED && result == -1 ? 0 : result;         /* owed with n above h */
+    case 58: return arrives(result, REPEAT) ? EARLY : result;             /* a repeat asked for again */
+    case 67: return current == CHECK_PATH && result > 0 ? 0 : result;     /* a check that fails passes */
+    case 70: return arrives(result, APPLIED) ? EARLY : result;            /* Early said to number n + 1 */
     default: return result;
     }
 }

@@ -24,7 +24,7 @@ enum {
     FRESH, INSERT, SET_SWITCHES, QUERY, QUERY_ALL, CHECK_ASKS, CHECK_PATH, CHECK_ALL_ASKS, CHECK_ALL, REQUEST_ASKS,
     REQUEST_PATH, REQUEST_ALL_ASKS, REQUEST_ALL, REVOKE, REVOKE_ALL, MAKE_CHILD, LINKED_INSERT, LINKED_SWITCHES,
     LINKED_CHECK, LINKED_CHECK_ALL, LINKED_REQUEST, LINKED_REQUEST_ALL, LINKED_REVOKE, LINKED_REVOKE_ALL, LINKED_CHILD,
-    USED, HEAD, ENTRY, FUNCTIONS
+    ARRIVE, OWED, USED, HEAD, ENTRY, FUNCTIONS
 };
 
 #define CAUSE(n) (1u << (n))
@@ -60,6 +60,8 @@ static const struct {
     [LINKED_REVOKE] = {"linked_revoke", CAUSES(1, 2) | CAUSES(4, 7) | CAUSE(9), 0, 5},
     [LINKED_REVOKE_ALL] = {"linked_revoke_all", CAUSES(1, 2) | CAUSE(9), 0, 5},
     [LINKED_CHILD] = {"linked_child", CAUSES(1, 10), 0, 0},
+    [ARRIVE] = {"arrive", CAUSE(1) | CAUSE(8) | CAUSE(11), APPLIED, EARLY},
+    [OWED] = {"owed", CAUSE(1), 0, 0},
     [USED] = {"used", CAUSE(1), 4, TABLE_BYTES},
     [HEAD] = {"head", CAUSE(1), 0, 0},
     [ENTRY] = {"entry", CAUSE(1), 0, 1},
@@ -71,7 +73,7 @@ static unsigned long calls, call_limit = 100000, seed = 1;
 static unsigned long answers_seen[FUNCTIONS][GREATEST_STATE + 2]; /* the last is for greater results */
 static unsigned long causes_seen[FUNCTIONS][GREATEST_CAUSE + 1];
 static unsigned long tables_seen, none_seen, full_by_entries, full_by_bytes, refused_by_entries, refused_by_bytes;
-static unsigned long records_seen, records_of_refused;
+static unsigned long records_seen, records_of_refused, arrivals_by_entries, full_elsewhere, mains_followed;
 static int current; /* the function that runs */
 
 static int is_child(void)
@@ -112,7 +114,7 @@ static void watch_signals(void)
 static struct slot {
     uint8_t bytes[TABLE_BYTES + EXTRA_BYTES];
     int style;
-} slots[SLOTS];
+} slots[SLOTS], standby_slot;
 
 static struct turn {
     struct slot *slot;
@@ -133,6 +135,10 @@ static struct turn {
     uint32_t *records;
     size_t records_space;
     size_t *records_size;
+    struct standby had, standby; /* before the arrival, and after it by the model */
+    uint64_t *last, *highest;
+    const uint32_t *words;
+    size_t words_size;
 } turn;
 
 static uint32_t word_in(int area, size_t place)
@@ -154,12 +160,40 @@ static size_t size_in(int area)
     return number;
 }
 
+static uint64_t long_in(int area)
+{
+    uint64_t number;
+    memcpy(&number, areas[area].start, sizeof number);
+    return number;
+}
+
+/* The number in the head of the record that is lent, or 0. */
+static uint32_t arriving_number(void)
+{
+    return turn.words_size > 0 ? word_in(WORDS, 0) & 0xFFFFFF : 0;
+}
+
+/* Whether the table is too full for that record, if it were the next one. */
+static int is_full_for_record(void)
+{
+    static struct table table;
+    struct standby standby = {arriving_number() - 1u, arriving_number()};
+
+    table = turn.table;
+    return model_arrive(&table, &standby, turn.words, turn.words_size) == -8;
+}
+
 static void want_number(int area, uint32_t number)
 {
     memcpy(wanted(area), &number, sizeof number);
 }
 
 static void want_size(int area, size_t number)
+{
+    memcpy(wanted(area), &number, sizeof number);
+}
+
+static void want_long(int area, uint64_t number)
 {
     memcpy(wanted(area), &number, sizeof number);
 }
@@ -175,7 +209,7 @@ static void want_sent(void)
 {
     if (turn.linked == NULL)
         return;
-    memcpy(wanted(MAIN_NUMBER), &turn.link.number, sizeof turn.link.number);
+    want_long(MAIN_NUMBER, turn.link.number);
     memcpy(wanted(RECORDS), turn.link.words, turn.link.size * sizeof turn.link.words[0]);
     want_size(NUMBER_3, turn.link.size);
 }
@@ -203,6 +237,7 @@ static void count_result(int32_t result)
     if (result == -8 && !is_child()) {
         refused_by_entries += turn.table.count == MAX_ENTRIES;
         refused_by_bytes += turn.table.count < MAX_ENTRIES;
+        arrivals_by_entries += current == ARRIVE && turn.table.count == MAX_ENTRIES;
     }
     if (turn.linked != NULL) {
         records_seen += (unsigned long)(turn.link.number - turn.first);
@@ -244,7 +279,7 @@ static void hold_to_header(int32_t result)
 /* What a linked call must leave, whatever the model: a number for each head among its words, one behind the other. */
 static void hold_to_numbers(int32_t result)
 {
-    uint64_t number = turn.first, last;
+    uint64_t number = turn.first, last = long_in(MAIN_NUMBER);
     size_t size = size_in(NUMBER_3);
 
     if (size > turn.records_space || (size > 0 && result < 0 && !is_child()))
@@ -254,7 +289,6 @@ static void hold_to_numbers(int32_t result)
         if (word >> 28 == 1 && (word & 0xFFFFFF) != ++number)
             violation("result %d with a record of number %u", (int)result, (unsigned)(word & 0xFFFFFF));
     }
-    memcpy(&last, areas[MAIN_NUMBER].start, sizeof last);
     if (last != number)
         violation("result %d with %zu words of records, and the main's number goes from %llu to %llu", (int)result, size,
                   (unsigned long long)turn.first, (unsigned long long)last);
@@ -287,6 +321,27 @@ static int32_t settle(int32_t result, int32_t expected)
     if (turn.linked != NULL)
         hold_to_numbers(result);
     return result;
+}
+
+/* What an arrival must leave, whatever the model: n and h by its answer and the number in its head, and the memory as it was
+ * but for Applied. */
+static void hold_to_answer(int32_t result)
+{
+    uint64_t number = arriving_number(), last = turn.had.last, highest = turn.had.highest;
+    int as_said = result < 0 || (result == REPEAT && number > 0 && number <= last)
+                  || (result == APPLIED && number > last && number - last == 1)
+                  || (result == EARLY && number > last && number - last > 1);
+
+    if (result == APPLIED)
+        last = number;
+    if ((result == APPLIED || result == EARLY) && highest < number)
+        highest = number;
+    if (!as_said || long_in(LAST) != last || long_in(HIGHEST) != highest)
+        violation("result %d for number %llu, and the standby's numbers go from %llu and %llu to %llu and %llu", (int)result,
+                  (unsigned long long)number, (unsigned long long)turn.had.last, (unsigned long long)turn.had.highest,
+                  (unsigned long long)long_in(LAST), (unsigned long long)long_in(HIGHEST));
+    if (result != APPLIED && memcmp(areas[MEMORY].start, standby_slot.bytes, turn.memory_size) != 0)
+        violation("result %d, and the memory has changed", (int)result);
 }
 
 /* Counts a call that is about to be made. */
@@ -322,6 +377,17 @@ static size_t table_memory_size(void)
     }
 }
 
+/* Reads what is lent, by the model. */
+static void read_memory(void)
+{
+    turn.holds = model_reads(areas[MEMORY].start, turn.memory_size, &turn.table);
+    turn.after = turn.table;
+    tables_seen += (unsigned long)turn.holds;
+    none_seen += !turn.holds;
+    full_by_entries += turn.holds && turn.table.count == MAX_ENTRIES;
+    full_by_bytes += turn.holds && turn.table.sum > MAX_SUM - MAX_PATH;
+}
+
 static void lend_memory(void)
 {
     turn.slot = &slots[below(SLOTS)];
@@ -333,12 +399,13 @@ static void lend_memory(void)
         make_damage(areas[MEMORY].start, turn.memory_size);
         memcpy(wanted(MEMORY), areas[MEMORY].start, turn.memory_size);
     }
-    turn.holds = model_reads(areas[MEMORY].start, turn.memory_size, &turn.table);
-    turn.after = turn.table;
-    tables_seen += (unsigned long)turn.holds;
-    none_seen += !turn.holds;
-    full_by_entries += turn.holds && turn.table.count == MAX_ENTRIES;
-    full_by_bytes += turn.holds && turn.table.sum > MAX_SUM - MAX_PATH;
+    read_memory();
+}
+
+/* Keeps the lent memory as it is before the call: where the call sends records, a standby begins with it. */
+static void copy_memory(void)
+{
+    memcpy(standby_slot.bytes, areas[MEMORY].start, turn.memory_size);
 }
 
 static void resolve_given(void)
@@ -365,11 +432,17 @@ static size_t path_in_table(uint8_t *path)
     return size;
 }
 
+/* A path as given. */
+static size_t some_path(uint8_t *path)
+{
+    return turn.holds && turn.table.count > 0 && one_in(5) ? path_in_table(path) : make_path(path, turn.slot->style);
+}
+
 static void lend_path(void)
 {
     uint8_t path[LONGEST_PATH], directory[LONGEST_PATH];
 
-    turn.given.size = turn.holds && turn.table.count > 0 && one_in(5) ? path_in_table(path) : make_path(path, turn.slot->style);
+    turn.given.size = some_path(path);
     turn.given.start = lend(PATH, path, turn.given.size);
     turn.directory.size = make_directory(directory);
     turn.directory.start = lend(DIRECTORY, directory, turn.directory.size);
@@ -424,6 +497,7 @@ static void lend_link(size_t items)
 {
     if (one_in(2))
         return;
+    copy_memory();
     turn.linked = &turn.link;
     turn.link.number = turn.first = make_main_number();
     turn.link.size = 0;
@@ -979,12 +1053,189 @@ static void run_child(void)
         memcpy(slots[below(SLOTS)].bytes, areas[CHILD].start, child_size);
 }
 
+/* ---- the standby: arrivals and what is owed */
+
+enum { SENT_RECORDS = 32 };
+
+/* Records that linked calls have sent. */
+static struct sent_record {
+    size_t size;
+    uint32_t words[RECORD_WORDS];
+} sent_records[SENT_RECORDS];
+
+/* What the last linked call sent, record after record, and the main's table after it. */
+static struct sent {
+    size_t count, starts[MAX_ITEMS + 1];
+    uint32_t words[MAX_ITEMS * RECORD_WORDS];
+    uint8_t table[TABLE_BYTES];
+} sent;
+
+static void lend_standby(const struct standby *standby)
+{
+    turn.had = turn.standby = *standby;
+    turn.last = lend(LAST, &standby->last, sizeof standby->last);
+    turn.highest = lend(HIGHEST, &standby->highest, sizeof standby->highest);
+}
+
+static void lend_words(const uint32_t *words, size_t size)
+{
+    turn.words = lend(WORDS, words, size * sizeof words[0]);
+    turn.words_size = size;
+}
+
+static int32_t expected_arrival(void)
+{
+    int32_t expected;
+
+    if (!turn.holds || turn.standby.last > turn.standby.highest)
+        return -1;
+    expected = model_arrive(&turn.after, &turn.standby, turn.words, turn.words_size);
+    if (expected == REPEAT || expected == EARLY)
+        full_elsewhere += (unsigned long)is_full_for_record();
+    return expected;
+}
+
+/* The lent words arrive at the lent standby. */
+static int32_t arrive(void)
+{
+    int32_t expected = expected_arrival(), result;
+
+    if (expected == APPLIED)
+        want_table(MEMORY, &turn.after);
+    want_long(LAST, turn.standby.last);
+    want_long(HIGHEST, turn.standby.highest);
+    copy_memory();
+    next(ARRIVE);
+    result = settle(permissions_arrive(turn.memory, turn.memory_size, turn.last, turn.highest, turn.words, turn.words_size),
+                    expected);
+    hold_to_answer(result);
+    keep_table();
+    return result;
+}
+
+/* A record that a linked call sent or the model writes, as it is or damaged, or words that are mostly none. */
+static size_t make_arriving(uint32_t *words)
+{
+    const struct sent_record *record = &sent_records[below(SENT_RECORDS)];
+    uint8_t path[LONGEST_PATH];
+    size_t size = record->size, path_size;
+
+    if (one_in(16))
+        return make_words(words);
+    if (size > 0 && one_in(3)) {
+        memcpy(words, record->words, size * sizeof words[0]);
+    } else {
+        path_size = some_path(path);
+        size = make_record(words, make_record_number(), path, path_size);
+    }
+    return one_in(3) ? make_record_damage(words, size) : size;
+}
+
+static void run_arrive(void)
+{
+    static uint32_t words[LONGEST_RECORD];
+    struct standby standby;
+    uint32_t number;
+
+    lend_memory();
+    lend_words(words, make_arriving(words));
+    number = arriving_number();
+    make_standby(&standby, number > 0 ? number : make_record_number());
+    lend_standby(&standby);
+    (void)arrive();
+}
+
+/* Divides what a linked call sent at its heads, and keeps one record of it. */
+static void take_sent(void)
+{
+    struct sent_record *record = &sent_records[below(SENT_RECORDS)];
+    size_t size = size_in(NUMBER_3), some;
+
+    memcpy(sent.table, areas[MEMORY].start, sizeof sent.table);
+    memcpy(sent.words, areas[RECORDS].start, size * sizeof sent.words[0]);
+    sent.count = 0;
+    for (size_t i = 0; i < size; i++)
+        if (sent.words[i] >> 28 == 1)
+            sent.starts[sent.count++] = i;
+    sent.starts[sent.count] = size;
+    some = below((uint32_t)sent.count);
+    record->size = sent.starts[some + 1] - sent.starts[some];
+    memcpy(record->words, sent.words + sent.starts[some], record->size * sizeof record->words[0]);
+}
+
+/* A record of those arrives at a standby that has the main's table after as many of them as it has applied. */
+static int32_t arrive_sent(size_t some, struct standby *standby)
+{
+    int32_t result;
+
+    lend_none();
+    turn.slot = &standby_slot;
+    turn.memory_size = TABLE_BYTES;
+    turn.memory = lend(MEMORY, standby_slot.bytes, turn.memory_size);
+    read_memory();
+    lend_standby(standby);
+    lend_words(sent.words + sent.starts[some], sent.starts[some + 1] - sent.starts[some]);
+    result = arrive();
+    standby->last = long_in(LAST);
+    standby->highest = long_in(HIGHEST);
+    return result;
+}
+
+/* All that the last linked call sent arrives, some of it early or again, at a standby with the main's table from before the
+ * call: then it has the main's table, whatever the model. */
+static void follow_main(void)
+{
+    static struct table table;
+    struct standby standby = {turn.first, turn.first};
+    size_t applied = 0;
+
+    take_sent();
+    turn.linked = NULL;
+    while (applied < sent.count && calls < call_limit) {
+        size_t some = one_in(4) ? below((uint32_t)sent.count) : applied;
+        int32_t due = some < applied ? REPEAT : some == applied ? APPLIED : EARLY;
+        int32_t result = arrive_sent(some, &standby);
+        if (result != due)
+            violation("result %d for record %zu of those that a main sent, after %zu", (int)result, some + 1, applied);
+        applied += some == applied;
+    }
+    if (applied < sent.count)
+        return;
+    if (!model_reads(sent.table, sizeof sent.table, &table)
+        || memcmp(sent.table, standby_slot.bytes, model_used(&table)) != 0)
+        violation("the standby has another table than its main");
+    mains_followed++;
+}
+
+/* What is owed, whatever the model; more is not said. */
+static void hold_to_owed(void)
+{
+    uint64_t owed = long_in(NUMBER), most = turn.had.last < turn.had.highest ? turn.had.highest - turn.had.last : 0;
+
+    if (owed > most || (owed == 0) != (most == 0))
+        violation("owed %llu of %llu", (unsigned long long)owed, (unsigned long long)most);
+}
+
+static void run_owed(void)
+{
+    uint64_t *owed = lend(NUMBER, NULL, sizeof *owed);
+
+    make_standby(&turn.had, make_record_number());
+    want_long(NUMBER, 0);
+    if (turn.had.last < turn.had.highest)
+        areas[NUMBER].open_to = sizeof *owed;
+    next(OWED);
+    (void)settle(permissions_owed(turn.had.last, turn.had.highest, owed), turn.had.last > turn.had.highest ? -1 : 0);
+    hold_to_owed();
+}
+
 /* ---- the run */
 
 static void run_turn(void)
 {
-    static void (*const turns[])(void) = {run_insert, run_insert, run_insert, run_ask,      run_ask,  run_ask,  run_query,
-                                          run_revoke, run_child,  run_child,  run_switches, run_used, run_head, run_entry};
+    static void (*const turns[])(void) = {run_insert, run_insert, run_insert, run_ask,      run_ask,  run_ask,
+                                          run_query,  run_revoke, run_child,  run_child,    run_used, run_head,
+                                          run_arrive, run_arrive, run_arrive, run_switches, run_owed, run_entry};
     void (*run)(void) = one_in(80) ? run_fresh : turns[below(sizeof turns / sizeof turns[0])];
 
     lend_none();
@@ -992,6 +1243,8 @@ static void run_turn(void)
     if (run == run_ask && call_limit - calls < 3)
         run = run_used; /* the other makes three calls */
     run();
+    if (turn.linked != NULL && size_in(NUMBER_3) > 0)
+        follow_main();
 }
 
 static void print_count(unsigned long count)
@@ -1036,6 +1289,11 @@ static void print_report(void)
     printf("refusal 8 outside the child call: %lu with 256 entries, %lu by the sum of path lengths\n", refused_by_entries,
            refused_by_bytes);
     printf("%lu records, %lu of them of refused child calls\n", records_seen, records_of_refused);
+    printf("%lu arrivals Applied, %lu Repeat, %lu Early\n", answers_seen[ARRIVE][APPLIED], answers_seen[ARRIVE][REPEAT],
+           answers_seen[ARRIVE][EARLY]);
+    printf("arrivals at a full table: %lu next ones refused by 8, %lu of them with 256 entries; %lu Repeat or Early\n",
+           causes_seen[ARRIVE][8], arrivals_by_entries, full_elsewhere);
+    printf("%lu times the records of a linked call brought a standby to the main's table\n", mains_followed);
     printf("hostile: %lu calls, seed %lu, 0 violations\n", calls, seed);
 }
 

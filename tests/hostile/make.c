@@ -326,3 +326,203 @@ void make_damage(uint8_t *memory, size_t size)
             damage_entry(memory + some_entry(memory));
     }
 }
+
+/* ---- records */
+
+enum { HEAD_WORD = 1, LENGTH_WORD, PATH_WORD, SWITCHES_WORD };
+
+static uint32_t word_of(uint32_t kind, uint32_t bits)
+{
+    return kind << 28 | (bits & 0xFFFFFFF);
+}
+
+uint32_t make_record_number(void)
+{
+    switch (below(4)) {
+    case 0: return 1 + below(4);
+    case 1: return MAX_NUMBER - below(4);
+    default: return 1 + below(MAX_NUMBER);
+    }
+}
+
+static uint64_t make_last(uint32_t number)
+{
+    if (one_in(2))
+        return number - 1;
+    switch (below(8)) {
+    case 0: return (uint64_t)number + below(2);
+    case 1: return number > 1 ? number - 2 : 0;
+    case 2: return below(number);
+    case 3: return below(MAX_NUMBER + 1);
+    case 4: return make_main_number();
+    case 5: return number - 1 + (UINT64_C(1) << (24 + below(40))); /* the one before it in its low bits alone */
+    case 6: return MAX_NUMBER - below(3);
+    default: return UINT64_MAX - below(3);
+    }
+}
+
+static uint64_t make_highest(uint64_t last)
+{
+    if (one_in(2))
+        return last;
+    switch (below(6)) {
+    case 0: return last + below(4);
+    case 1: return last + below(MAX_NUMBER);
+    case 2: return last - 1 - below(3);
+    case 3: return last + (UINT64_C(1) << below(64));
+    case 4: return make_main_number();
+    default: return UINT64_MAX - below(3);
+    }
+}
+
+void make_standby(struct standby *standby, uint32_t number)
+{
+    standby->last = make_last(number);
+    standby->highest = make_highest(standby->last);
+}
+
+/* A record as the model's main sends it. */
+static size_t main_record(uint32_t *words, uint32_t number, struct bytes path)
+{
+    static struct table table;
+    static struct link link;
+
+    table.count = table.sum = 0;
+    link.number = number - 1;
+    link.size = 0;
+    switch (below(16)) {
+    case 0: (void)model_switches(&table, one_in(3) ? below(SWITCHES) : SWITCH_PROMPT | below(2), &link); break;
+    case 1: (void)model_revoke(&table, NULL, &link); break;
+    case 2: (void)model_revoke(&table, &path, &link); break;
+    default: (void)model_insert(&table, below(KINDS), path, &link); break;
+    }
+    memcpy(words, link.words, link.size * sizeof words[0]);
+    return link.size;
+}
+
+/* A record with any path, of any size below 2^16. */
+static size_t path_record(uint32_t *words, uint32_t number, struct bytes path)
+{
+    size_t count = 0;
+
+    words[count++] = word_of(HEAD_WORD, (one_in(6) ? 6 : 1 + below(4)) << 24 | number);
+    words[count++] = word_of(LENGTH_WORD, (uint32_t)path.size);
+    for (size_t at = 0; at < path.size; at += 3) {
+        uint32_t three = 0;
+        for (size_t i = at; i < at + 3; i++)
+            three = three << 8 | (i < path.size ? path.start[i] : 0u);
+        words[count++] = word_of(PATH_WORD, three);
+    }
+    return count;
+}
+
+/* A resolved path of a size next to the limit, or far above it; at times what is above the limit is zero bytes. */
+static struct bytes long_path(void)
+{
+    static const size_t sizes[] = {1022, 1023, 1024, 1025, 1026, 1027, 2048, 65535};
+    static uint8_t bytes[65535];
+    struct bytes path = {bytes, sizes[below(sizeof sizes / sizeof sizes[0])]};
+
+    memset(bytes, "pqr"[below(3)], path.size);
+    bytes[0] = '/';
+    if (path.size > MAX_PATH && one_in(2))
+        memset(bytes + MAX_PATH, 0, path.size - MAX_PATH);
+    return path;
+}
+
+size_t make_record(uint32_t *words, uint32_t number, const uint8_t *path, size_t path_size)
+{
+    static const struct bytes root = {(const uint8_t *)"/", 1};
+    struct bytes given = {path, path_size};
+    struct path resolved;
+
+    if (one_in(32))
+        return path_record(words, number, long_path());
+    if (one_in(12) || model_resolve(given, root, &resolved) != 0)
+        return path_record(words, number, given);
+    given.start = resolved.bytes;
+    given.size = resolved.size;
+    return main_record(words, number, given);
+}
+
+static uint32_t other_length(uint32_t length)
+{
+    switch (below(7)) {
+    case 0: return 0;
+    case 1: return length + 1;
+    case 2: return length - 1;
+    case 3: return length + 3;
+    case 4: return MAX_PATH + below(3);
+    case 5: return length + (UINT32_C(1) << (16 + below(12))); /* the same in its low 16 bits */
+    default: return below(UINT32_C(1) << 16);
+    }
+}
+
+/* A bit that must be zero in a word of this kind. */
+static uint32_t unused_bit(uint32_t kind)
+{
+    uint32_t lowest = kind == LENGTH_WORD ? 16 : kind == PATH_WORD ? 24 : 5;
+    return UINT32_C(1) << (lowest + below(28 - lowest));
+}
+
+/* Words left over: of no kind, of a path or of another record, or of any bits; at times as many as fit. */
+static size_t lengthen(uint32_t *words, size_t size)
+{
+    const uint32_t fill[] = {0, word_of(PATH_WORD, 0), words[0], words[0] + 1, words[size - 1], (uint32_t)any()};
+    uint32_t word = fill[below(sizeof fill / sizeof fill[0])];
+    size_t longer = size + 1 + below(one_in(16) ? (uint32_t)(LONGEST_RECORD - size) : 3);
+
+    while (size < longer)
+        words[size++] = word;
+    return size;
+}
+
+size_t make_record_damage(uint32_t *words, size_t size)
+{
+    size_t some = below((uint32_t)size), last = size - 1;
+    uint32_t *word = &words[some];
+
+    switch (below(12)) {
+    case 0: *word ^= UINT32_C(1) << below(32); break;
+    case 1: flip_bits((uint8_t *)words, (uint32_t)(size * sizeof *words), 1 + below(8)); break;
+    case 2: return one_in(2) ? last : some; /* words missing */
+    case 3: return lengthen(words, size);
+    case 4: *word = word_of(below(16), *word); break;
+    case 5: words[0] = word_of(HEAD_WORD, below(16) << 24 | (words[0] & 0xFFFFFF)); break;
+    case 6: words[0] &= ~(uint32_t)0xFFFFFF; break;
+    case 7: words[size > 1] = word_of(LENGTH_WORD, other_length(words[size > 1] & 0xFFFF)); break;
+    case 8: *word |= unused_bit(*word >> 28); break;
+    case 9: words[last] |= (1 + below(255)) << (8 * below(2)); break; /* bytes that are perhaps not used */
+    case 10: memmove(word, word + 1, (last - some) * sizeof *word); return last;
+    default: memmove(word + 1, word, (size - some) * sizeof *word); return size + 1;
+    }
+    return size;
+}
+
+/* A word that might stand at this place of a record with so many words. */
+static uint32_t likely_word(size_t place, size_t size)
+{
+    static const char *const threes[] = {"/aa", "/a/", "a/b", "/..", "bcc", "/a\0", "/\0\0", "b\0\0"};
+    const char *three = threes[below(sizeof threes / sizeof threes[0])];
+    uint32_t number = make_record_number();
+
+    if (one_in(16))
+        return word_of(below(6), number);
+    if (place == 0)
+        return word_of(HEAD_WORD, below(9) << 24 | number);
+    if (place == 1)
+        return one_in(5) ? word_of(SWITCHES_WORD, below(40)) : word_of(LENGTH_WORD, (uint32_t)(3 * size) - 6 - below(3));
+    return word_of(PATH_WORD, (uint32_t)three[0] << 16 | (uint32_t)three[1] << 8 | (uint32_t)three[2]);
+}
+
+size_t make_words(uint32_t *words)
+{
+    size_t size = one_in(32) ? below(LONGEST_RECORD + 1) : below(one_in(8) ? 400 : 6);
+
+    make_noise((uint8_t *)words, size * sizeof words[0]);
+    if (one_in(4))
+        return size;
+    for (size_t i = 0; i < size; i++)
+        words[i] = likely_word(i, size);
+    return size;
+}

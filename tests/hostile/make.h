@@ -1,11 +1,13 @@
-/* Hostile input from a seed: numbers, paths, directories, tables of every size, and damage to them. */
+/* Hostile input from a seed: numbers, paths, directories, tables of every size, records, and damage to these two. */
 #ifndef MAKE_H
 #define MAKE_H
 
 #include <stddef.h>
 #include <stdint.h>
 
-enum { LONGEST_PATH = 2000 };
+struct standby;
+
+enum { LONGEST_PATH = 2000, LONGEST_RECORD = 22000 /* words */ };
 
 /* What the paths are like: few names, so that they meet; many, so that tables fill by entries; long, so that they fill by
  * bytes. */
@@ -34,5 +36,22 @@ void make_table(uint8_t *memory, int style);
 
 /* Damages memory of `size` bytes that holds a table; at times another table comes out. */
 void make_damage(uint8_t *memory, size_t size);
+
+/* 1 to MAX_NUMBER, at times next to one of them. */
+uint32_t make_record_number(void);
+
+/* The numbers of a standby for which a record of this number is mostly the next one, else a repeat or early; n may be above
+ * MAX_NUMBER, and above h. */
+void make_standby(struct standby *standby, uint32_t number);
+
+/* A record as a main writes it, or the same with a path that is not resolved or too long; the count of its words, at most
+ * LONGEST_RECORD as in all of these. */
+size_t make_record(uint32_t *words, uint32_t number, const uint8_t *path, size_t path_size);
+
+/* Damages a record; at times another one comes out. The new count of words. */
+size_t make_record_damage(uint32_t *words, size_t size);
+
+/* Words of any bits, or with the kinds of a record; seldom they are one. */
+size_t make_words(uint32_t *words);
 
 #endif

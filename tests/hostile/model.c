@@ -1,4 +1,5 @@
-/* Document 01 in plain C, from the bottom up: paths, a table in memory, records, acts, the walk, the calls, the child. */
+/* Document 01 in plain C, from the bottom up: paths, a table in memory, records, acts, the walk, the calls, the child, the
+ * standby. */
 #include "model.h"
 
 #include <string.h>
@@ -13,9 +14,11 @@ static int is_dots(struct bytes component, size_t dots)
 /* The component from `at` on, up to a slash or the end. */
 static struct bytes component_at(struct bytes path, size_t at)
 {
-    struct bytes component = {path.start + at, 0};
-    while (at + component.size < path.size && component.start[component.size] != '/')
-        component.size++;
+    struct bytes component = {path.start + at, path.size - at};
+    const uint8_t *slash = memchr(component.start, '/', component.size);
+
+    if (slash != NULL)
+        component.size = (size_t)(slash - component.start);
     return component;
 }
 
@@ -531,4 +534,111 @@ int model_child(struct table *parent, struct table *child, const struct child_ca
         if (parent->entries[i].kind != KIND_G)
             refused = model_insert(child, parent->entries[i].kind, parent->entries[i].path, NULL);
     return refused;
+}
+
+/* ---- the standby */
+
+/* A record as it was read: the path of acts 1 to 4 and 6, the switches of act 5. */
+struct record {
+    uint32_t act, number, switches;
+    struct path path;
+};
+
+struct reader {
+    const uint32_t *words;
+    size_t size, at;
+    int malformed;
+};
+
+/* The 28 bits below the next word's kind. A word that is missing counts as 0, which is of no kind. */
+static uint32_t next_word(struct reader *reader, uint32_t kind)
+{
+    uint32_t word = reader->at < reader->size ? reader->words[reader->at++] : 0;
+
+    if (word >> 28 != kind)
+        reader->malformed = 1;
+    return word & 0xFFFFFFF;
+}
+
+/* Up to three bytes of the path, from `at` on; bytes behind the path and the bits above are not used, and zero. */
+static void read_path_word(struct reader *reader, struct path *path, size_t at)
+{
+    uint32_t word = next_word(reader, PATH_BYTES);
+    const uint8_t three[3] = {(uint8_t)(word >> 16), (uint8_t)(word >> 8), (uint8_t)word};
+
+    if (word >> 24 != 0)
+        reader->malformed = 1;
+    for (size_t i = 0; i < 3; i++) {
+        if (at + i < path->size)
+            path->bytes[at + i] = three[i];
+        else if (three[i] != 0)
+            reader->malformed = 1;
+    }
+}
+
+/* A length with any of the unused bits is far over the limit. */
+static void read_path(struct reader *reader, struct path *path)
+{
+    struct bytes whole = {path->bytes, 0};
+
+    path->size = whole.size = next_word(reader, LENGTH);
+    if (path->size == 0 || path->size > MAX_PATH)
+        reader->malformed = 1;
+    for (size_t at = 0; at < path->size && !reader->malformed; at += 3)
+        read_path_word(reader, path, at);
+    if (!reader->malformed && !is_resolved(whole))
+        reader->malformed = 1;
+}
+
+/* Reads a record that ends where the words end; 0 where it is malformed. */
+static int read_record(const uint32_t *words, size_t size, struct record *record)
+{
+    struct reader reader = {words, size, 0, 0};
+    uint32_t head = next_word(&reader, HEAD);
+
+    record->act = head >> 24;
+    record->number = head & 0xFFFFFF;
+    if (record->act == ACT_SWITCHES) {
+        record->switches = next_word(&reader, SWITCHES_WORD);
+        reader.malformed |= record->switches >= SWITCHES;
+    } else if (record->act >= 1 && record->act <= ACT_REVOKE) {
+        read_path(&reader, &record->path);
+    } else if (record->act != ACT_REVOKE_ALL) {
+        reader.malformed = 1;
+    }
+    return !reader.malformed && record->number != 0 && reader.at == size;
+}
+
+/* 0, or -8. */
+static int do_act(struct table *table, const struct record *record)
+{
+    static const uint32_t kinds[KINDS] = {KIND_G, KIND_D, KIND_I, KIND_P}; /* of acts 1 to 4 */
+    struct bytes path = {record->path.bytes, record->path.size};
+
+    if (record->act == ACT_SWITCHES)
+        return model_switches(table, record->switches, NULL);
+    if (record->act < ACT_SWITCHES)
+        return model_insert(table, kinds[record->act - 1], path, NULL);
+    (void)model_revoke(table, record->act == ACT_REVOKE ? &path : NULL, NULL);
+    return 0;
+}
+
+int model_arrive(struct table *table, struct standby *standby, const uint32_t *words, size_t size)
+{
+    static struct record record; /* the table points here */
+    int is_next, refused;
+
+    if (!read_record(words, size, &record))
+        return -11;
+    if (record.number <= standby->last)
+        return REPEAT;
+    is_next = record.number - standby->last == 1;
+    refused = is_next ? do_act(table, &record) : 0;
+    if (refused != 0)
+        return refused;
+    if (is_next)
+        standby->last = record.number;
+    if (standby->highest < record.number)
+        standby->highest = record.number;
+    return is_next ? APPLIED : EARLY;
 }

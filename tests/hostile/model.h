@@ -24,6 +24,7 @@ enum { DENY, ALLOW, ALLOW_ALL, ANSWERS };
 enum { INHERIT, CHILD_GRANTED, NOT_GRANTED, LIST, CODES };
 enum { SWITCH_GRANTED = 1, SWITCH_DENIED = 2, SWITCH_IGNORED = 4, SWITCH_PROMPT_DENIED = 8, SWITCH_PROMPT = 16, SWITCHES = 32 };
 enum { CHECK, REQUEST };
+enum { APPLIED, REPEAT, EARLY };
 
 struct bytes {
     const uint8_t *start;
@@ -52,6 +53,11 @@ struct link {
     uint64_t number;
     size_t size;
     uint32_t words[MAX_ITEMS * RECORD_WORDS];
+};
+
+/* A standby's numbers: n, the last change applied, and h, the highest number in any record not refused. */
+struct standby {
+    uint64_t last, highest;
 };
 
 struct child_call {
@@ -89,5 +95,9 @@ int model_child_arguments(const struct child_call *call);
 /* Makes a child of arguments in order. Both tables may point into memory that lives until the next call. */
 int model_child(struct table *parent, struct table *child, const struct child_call *call, struct link *link,
                 uint32_t *asked);
+
+/* Takes the words of one record at a standby whose n is not above its h. Result: the answer, -11 or -8. The table may point
+ * into memory that lives until the next call. */
+int model_arrive(struct table *table, struct standby *standby, const uint32_t *words, size_t size);
 
 #endif

@@ -1,0 +1,8 @@
+pub mod WordLaws
+pub mod HoldingLaws
+pub mod PartLaws
+pub mod EscapeLaws
+pub mod DecimalLaws
+pub mod LineLaws
+pub mod InputLaws
+pub mod KeepLaws

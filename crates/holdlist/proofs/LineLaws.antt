@@ -1,0 +1,239 @@
+-- Laws of the lines: pieces written one behind the other, how long each line is, and the loop over the entries.
+use Prim.Native.Nat.{ℕ, _+_, _*_, _-_, _≤_, _<_}
+use Prim.Native.String.{String}
+use mathlib.Core.Path.{_≡_, refl, sym, ap, _∙_}
+use mathlib.Core.List.{List, [], _∷_, _++_, append-nil, append-assoc}
+use mathlib.Core.Bool.{Bool, true, false, cond}
+use native.Mathlib.Omega.{arith}
+use lib.ListN.{length, take, drop, length-append}
+use lib.Dec.{eqb}
+use borrow.Author.Tests.{eq-eqb, ne-eqb}
+use Rattle.refusals.specs.declared.Refusal.{Refusal}
+use Rattle.io.specs.Digits.{digits, Fewest}
+use Rattle.paths.specs.Copying.{begun, Appends}
+use Rattle.table.specs.declared.Kind.{Kind}
+use Rattle.table.specs.declared.Cursor.{Cursor}
+use Rattle.table.specs.Entries.{Entry}
+use Rattle.table.specs.Tables.{Table, pathBytes, maxEntries, maxPathBytes}
+use Rattle.table.specs.Memory.{tableOf, holds}
+use Rattle.table.specs.Reading.{entriesFrom, isAtEntry, entryIn, firstEntry, nextEntry, InList, Reads}
+use Rattle.table.proofs.Overwrites.{appends-none, appends-as, appends-more, from-start}
+use Rattle.table.proofs.TableLaws.{valid-parts}
+use Rattle.table.proofs.Puts.{valid-of}
+use Rattle.table.proofs.ReadingLaws.{first-in, first-from, from-entry, from-end, next-in}
+use Rattle.standby.specs.declared.Numbers.{Numbers}
+use Rattle.standby.specs.declared.Owed.{Owed}
+use Rattle.standby.specs.declared.Owed.the-variants.{Changes, Refused}
+use Rattle.standby.specs.Owing.{Owes, above, reports}
+use Rattle.holdlist.specs.Escaping.{escaped}
+use Rattle.holdlist.specs.Holding.{Standing}
+use Rattle.holdlist.specs.Lines.{
+  text,
+  newline,
+  decimal,
+  labelled,
+  owedText,
+  header,
+  kindLetter,
+  entryLine,
+  entryLines,
+  stoppedLine,
+  listing,
+  Writes,
+}
+use Rattle.holdlist.proofs.EscapeLaws.{escaped-long}
+use Rattle.holdlist.proofs.DecimalLaws.{decimal-long, decimal-digits}
+
+-- ---- pieces
+
+-- one behind the other, where the first ends within the space
+pub then : {s m : List ℕ} {at : ℕ} {m′ : List ℕ} {n : ℕ} {s′ m″ : List ℕ} {n′ : ℕ} → n ≤ length m → Appends s m at m′ n → Appends s′ m′ n m″ n′
+    → Appends (s ++ s′) m at m″ n′
+then h a b = appends-more (omega (arith, a .end)) a b
+
+-- a number behind its label
+pub number-behind : (label : List ℕ) (n : ℕ) (out : List ℕ) {m : List ℕ} {at : ℕ} {m′ : List ℕ} {from : ℕ} {m″ : List ℕ} {r : ℕ} (k : ℕ)
+    → at + length label + 20 ≤ length m → k ≤ 20 → Fewest 10 1 n k → take k out ≡ digits 10 k n
+    → Appends label m at m′ from → Appends (take k out) m′ from m″ r → Appends (label ++ decimal n) m at m″ r
+number-behind label n out k h few F d a b = then (omega (arith, a .end)) a (appends-as (d ∙ decimal-digits k 20 n F few) b)
+
+-- ---- what is owed
+
+module _ {n h : ℕ} where
+  owes-zero : {owed : Owed} {k : ℕ} → Owes n h owed → owed ≡ Changes k → k ≡ 0 → h ≡ n
+  owes-zero (above l) e z = let f : _≡_ {A = ℕ} 0 1 = cc in absurd (omega arith)
+  owes-zero {k = k} (reports {k = j} l R) e z = let f : j ≡ k = cc in R .some (f ∙ z)
+
+  owes-more : {owed : Owed} {k : ℕ} → Owes n h owed → owed ≡ Changes k → (k ≡ 0 → ⊥) → h ≡ n → ⊥
+  owes-more (above l) e z f = omega arith
+  owes-more {k = k} (reports {k = j} l R) e z f = let g : j ≡ k = cc in z (sym g ∙ R .none f)
+
+  owes-above : {owed : Owed} {cause : Refusal} → Owes n h owed → owed ≡ Refused cause → h ≡ n → ⊥
+  owes-above (above l) e f = omega arith
+  owes-above (reports l R) e f = let g : _≡_ {A = ℕ} 0 1 = cc in omega arith
+
+module _ (s : Numbers) {owed : Owed} (O : Owes (s .n) (s .h) owed) {m : List ℕ} {at : ℕ} {m′ : List ℕ} {r : ℕ} where
+  pub owed-none : {k : ℕ} → owed ≡ Changes k → k ≡ 0 → Appends (text " owed 0") m at m′ r → Appends (owedText s) m at m′ r
+  unfolding owedText
+  owed-none e z A = rw (eq-eqb (s .h) (s .n) (owes-zero O e z)) A
+
+  owed-other : (s .h ≡ s .n → ⊥) → Appends (text " owed some") m at m′ r → Appends (owedText s) m at m′ r
+  unfolding owedText
+  owed-other n A = rw (ne-eqb (s .h) (s .n) n) A
+
+  pub owed-some : {k : ℕ} → owed ≡ Changes k → (k ≡ 0 → ⊥) → Appends (text " owed some") m at m′ r → Appends (owedText s) m at m′ r
+  owed-some e z A = owed-other (owes-more O e z) A
+
+  pub owed-refused : {cause : Refusal} → owed ≡ Refused cause → Appends (text " owed some") m at m′ r → Appends (owedText s) m at m′ r
+  owed-refused e A = owed-other (owes-above O e) A
+
+pub owed-long : (s : Numbers) → length (owedText s) ≤ 10
+unfolding owedText
+owed-long s = by (eqb (s .h) (s .n))
+  where
+    by : (b : Bool) → length (cond b (text " owed 0") (text " owed some")) ≤ 10
+    by true = omega arith
+    by false = omega arith
+
+-- ---- the header
+
+module _ (t : Table) (s : Numbers) where
+  header-long : length (header t s) ≤ 125
+  unfolding header
+  header-long =
+      simp length-append
+      (omega (
+        arith,
+        decimal-long 20 (length (t .entries)),
+        decimal-long 20 (s .n),
+        owed-long s,
+        decimal-long 20 (t .switches),
+        decimal-long 20 (t .marks),
+      ))
+
+  pub header-end : {m m′ : List ℕ} {r : ℕ} → Appends (header t s) m 0 m′ r → r ≤ 125
+  header-end A = omega (arith, A .end, header-long)
+
+  pub header-written : (count switches marks : ℕ) {m m₁ m₂ m₃ m₄ m₅ m₆ : List ℕ} {n₁ n₂ n₃ n₄ n₅ r : ℕ} → 125 ≤ length m
+      → count ≡ length (t .entries) → switches ≡ t .switches → marks ≡ t .marks
+      → Appends (labelled "entries " count) m 0 m₁ n₁ → Appends (labelled " changes " (s .n)) m₁ n₁ m₂ n₂ → Appends (owedText s) m₂ n₂ m₃ n₃
+      → Appends (labelled " switches " switches) m₃ n₃ m₄ n₄ → Appends (labelled " marks " marks) m₄ n₄ m₅ n₅ → Appends newline m₅ n₅ m₆ r
+      → Appends (header t s) m 0 m₆ r
+  unfolding header
+  header-written count switches marks h c sw mk a b o d e f =
+      let l₁ = decimal-long 20 count in
+      let l₂ = decimal-long 20 (s .n) in
+      let l₃ = owed-long s in
+      let l₄ = decimal-long 20 switches in
+      let l₅ = decimal-long 20 marks in
+      rw (sym c, sym sw, sym mk)
+      (then (omega arith) (then (omega arith) (then (omega arith) (then (omega arith) (then (omega arith) a b) o) d) e) f)
+
+-- ---- entries
+
+pub entry-written : (kind : Kind) (path : List ℕ) (letter : ℕ) {m : List ℕ} {at : ℕ} {m₁ m₂ m₃ : List ℕ} {n₁ n₂ r : ℕ} → letter ≡ kindLetter kind
+    → at + 3 * length path + 3 ≤ length m
+    → Appends (letter ∷ 32 ∷ []) m at m₁ n₁ → Appends (escaped path) m₁ n₁ m₂ n₂ → Appends newline m₂ n₂ m₃ r
+    → Appends (entryLine (record { kind = kind; path = path })) m at m₃ r
+unfolding entryLine
+entry-written kind path letter e h a b c =
+    let l = escaped-long path in
+    rw (sym e) (then (omega arith) (then (omega arith) a b) c)
+
+entry-long : (e : Entry) → length (entryLine e) ≤ 3 * length (e .path) + 3
+unfolding entryLine
+entry-long e = simp length-append (omega (arith, escaped-long (e .path)))
+
+-- the lines so far, with those of the entries from the cursor on behind them, are all the lines, and there is room for them
+pub record Lining (m space : List ℕ) (at : ℕ) (space′ : List ℕ) (end : ℕ) (c : Cursor) : Type 0 where
+  pub done : List ℕ
+  pub written : Appends done space at space′ end
+  pub whole : done ++ entryLines (entriesFrom m c) ≡ entryLines (tableOf m .entries)
+  pub place : InList m c
+  pub room : end + 3 * pathBytes (entriesFrom m c) + 3 * length (entriesFrom m c) ≤ length space
+  pub same : length space′ ≡ length space
+
+pub lining-start : (m space : List ℕ) (at : ℕ) {c : Cursor} → c ≡ firstEntry m → holds m ≡ true
+    → at + 3 * pathBytes (tableOf m .entries) + 3 * length (tableOf m .entries) ≤ length space → Lining m space at space at c
+lining-start m space at e h r =
+    rw e
+    (record {
+      done = [];
+      written = appends-none space at;
+      whole = rw (first-from m);
+      place = first-in m h;
+      room = rw (first-from m) r;
+      same = refl;
+    })
+
+module _ {m space : List ℕ} {at : ℕ} {space′ : List ℕ} {end : ℕ} {c : Cursor} (L : Lining m space at space′ end c) where
+  pub lining-end : isAtEntry c ≡ false → Appends (entryLines (tableOf m .entries)) space at space′ end
+  unfolding entryLines
+  lining-end e = appends-as (sym (append-nil (L .done)) ∙ rw (from-end m c e) at (L .whole)) (L .written)
+
+  module _ (here : isAtEntry c ≡ true) where
+    pub lining-reads : Reads m c
+    lining-reads = record { rest = L .place; more = here }
+
+    pub lining-room : end + 3 * length (entryIn m c .path) + 3 ≤ length space′
+    unfolding pathBytes
+    lining-room = omega (arith, rw (from-entry m c here) at (L .room), L .same)
+
+    pub lining-next : {kind : Kind} {path space″ : List ℕ} {end′ : ℕ} {c′ : Cursor} → Appends (entryLine (record { kind = kind; path = path })) space′ end space″ end′
+        → kind ≡ entryIn m c .kind → path ≡ entryIn m c .path → c′ ≡ nextEntry m c → length space″ ≡ length space′ → Lining m space at space″ end′ c′
+    unfolding entryLines pathBytes
+    lining-next A k p n l =
+        let e = entryIn m c in
+        let B = appends-as (λ i. entryLine (record { kind = k i; path = p i })) A in
+        let first = from-entry m c here in
+        let room = rw first at (L .room) in
+        rw n
+        (record {
+          done = L .done ++ entryLine e;
+          written = then (omega (arith, L .room)) (L .written) B;
+          whole = append-assoc (L .done) (entryLine e) (entryLines (entriesFrom m (nextEntry m c))) ∙ rw first at (L .whole);
+          place = next-in lining-reads;
+          room = omega (arith, room, B .end, entry-long e);
+          same = l ∙ L .same;
+        })
+
+-- ---- all that is printed
+
+pub stopped-written : (w : ℕ) {m : List ℕ} {at : ℕ} {m₁ m₂ : List ℕ} {n₁ r : ℕ} → at + 37 ≤ length m
+    → Appends (labelled "stopped at word " w) m at m₁ n₁ → Appends newline m₁ n₁ m₂ r → Appends (stoppedLine w) m at m₂ r
+unfolding stoppedLine
+stopped-written w h a b = let l = decimal-long 20 w in then (omega arith) a b
+
+lines-long : (es : List Entry) → length (entryLines es) ≤ 3 * pathBytes es + 3 * length es
+unfolding entryLines pathBytes
+lines-long [] = omega arith
+lines-long (e ∷ es) = omega (arith, length-append (entryLine e) (entryLines es), entry-long e, lines-long es)
+
+-- the limits of a table
+module _ (mem : List ℕ) (h : holds mem ≡ true) where
+  pub entries-room : 3 * pathBytes (tableOf mem .entries) + 3 * length (tableOf mem .entries) ≤ 99072
+  entries-room = let limits = valid-parts (tableOf mem) (valid-of mem h) in omega (arith, limits .few, limits .bytes)
+
+  pub entries-end : {m : List ℕ} {at : ℕ} {m′ : List ℕ} {r : ℕ} → Appends (entryLines (tableOf mem .entries)) m at m′ r → r ≤ at + 99072
+  entries-end A = omega (arith, A .end, entries-room, lines-long (tableOf mem .entries))
+
+writes : {words m m′ : List ℕ} {r : ℕ} → Appends words m 0 m′ r → Writes words m m′ r
+writes A = record { size = from-start A .1; bytes = from-start A .0 }
+
+pub writes-inside : {words m m′ : List ℕ} {r : ℕ} → Writes words m m′ r → r ≤ length m′
+unfolding begun
+writes-inside {words} {m} W = omega (arith, W .size, ap length (W .bytes) ∙ length-append words (drop (length words) m))
+
+listing-by : (s : Standing) (b : Bool) → s .stopped ≡ b
+    → header (tableOf (s .memory)) (s .numbers) ++ entryLines (tableOf (s .memory) .entries) ++ cond b (stoppedLine (s .words)) [] ≡ listing s
+unfolding listing
+listing-by s b e =
+    ap (λ (d : Bool). header (tableOf (s .memory)) (s .numbers) ++ entryLines (tableOf (s .memory) .entries) ++ cond d (stoppedLine (s .words)) []) (sym e)
+
+module _ (s : Standing) {m m₁ m₂ : List ℕ} {n₁ n₂ : ℕ} (h : n₁ ≤ length m)
+    (a : Appends (header (tableOf (s .memory)) (s .numbers)) m 0 m₁ n₁) (b : Appends (entryLines (tableOf (s .memory) .entries)) m₁ n₁ m₂ n₂) where
+  pub listing-whole : s .stopped ≡ false → Writes (listing s) m m₂ n₂
+  listing-whole e = writes (appends-as (sym (append-nil _) ∙ listing-by s false e) (then h a b))
+
+  pub listing-stopped : {m₃ : List ℕ} {r : ℕ} → s .stopped ≡ true → n₂ ≤ length m → Appends (stoppedLine (s .words)) m₂ n₂ m₃ r → Writes (listing s) m m₃ r
+  listing-stopped e l c = writes (appends-as (listing-by s true e) (then l (then h a b) c))

@@ -1,0 +1,24 @@
+-- `hex_digit` meets its contract.
+use native.Mathlib.Omega.{arith}
+use Rattle.holdlist.proofs.EscapeLaws.{digit-low, digit-high}
+use borrow.Author.Needs.{needs}
+use Rattle.holdlist.proofs.printing.hex_digit.Statement.{statement}
+use Rattle.holdlist.proofs.printing.hex_digit.Tie as tie
+
+add-result : tie.Need-add-result
+add-result c = search needs
+
+returns : tie.Need-returns
+returns c = digit-low (omega arith)
+
+sub-result : tie.Need-sub-result
+sub-result c = search needs
+
+add-result-2 : tie.Need-add-result-2
+add-result-2 c = search needs
+
+returns-2 : tie.Need-returns-2
+returns-2 c = digit-high (omega arith)
+
+pub hex-digit-spec : {M : Type 1} → statement M
+hex-digit-spec = tie.close (tie.spec add-result returns sub-result add-result-2 returns-2)

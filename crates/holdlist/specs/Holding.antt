@@ -1,0 +1,112 @@
+-- What a standby holds after input of records, and where reading stopped. Document 01, "Handover, at the top" (`holdlist`).
+use Prim.Native.Nat.{ℕ, zero, suc, _+_, _*_}
+use mathlib.Core.Path.{_≡_}
+use mathlib.Core.List.{List, [], _∷_}
+use mathlib.Core.Option.{Option, none, some}
+use mathlib.Core.Bool.{Bool, true, false, _||_, cond}
+use lib.ListN.{length, drop}
+use lib.Dec.{leb}
+use Rattle.refusals.specs.Refusals.{Result, refused, ok}
+use Rattle.table.specs.Memory.{doActs}
+use Rattle.records.specs.Records.{Change, Read, changeWords, readFirst}
+use Rattle.standby.specs.declared.Numbers.{Numbers}
+use Rattle.standby.specs.declared.Arrival.{Arrival}
+use Rattle.standby.specs.declared.Arrival.the-variants.{Applied, Repeat, Early, Refused}
+use Rattle.standby.specs.Arriving.{Taken, arrival}
+use Rattle.holdlist.specs.declared.Held.{Held}
+
+-- ---- words
+
+-- four bytes are a word, most significant first
+abbrev pub inputWord : ℕ → ℕ → ℕ → ℕ → ℕ
+inputWord a b c d = ((a * 256 + b) * 256 + c) * 256 + d
+
+-- fewer at the end are a broken word, which is none
+unfoldable pub wordsOf : List ℕ → List ℕ
+wordsOf [] = []
+wordsOf (a ∷ []) = []
+wordsOf (a ∷ b ∷ []) = []
+wordsOf (a ∷ b ∷ c ∷ []) = []
+wordsOf (a ∷ b ∷ c ∷ d ∷ bytes) = inputWord a b c d ∷ wordsOf bytes
+
+-- ---- record after record
+
+-- the standby so far, how many words it has taken of the input, and whether reading stopped behind them
+pub record Standing : Type 0 where
+  pub memory : List ℕ
+  pub numbers : Numbers
+  pub words : ℕ
+  pub stopped : Bool
+
+-- reading stops at the record's first word
+unfoldable pub stop : Standing → Standing
+stop s = record { memory = s .memory; numbers = s .numbers; words = s .words; stopped = true }
+
+-- a record of k words arrives; one that is refused ends reading
+unfoldable pub afterArrival : Result Taken → ℕ → Standing → Standing
+afterArrival (refused cause) k s = stop s
+afterArrival (ok t) k s = record { memory = doActs (s .memory) (t .acts); numbers = t .numbers; words = s .words + k; stopped = false }
+
+-- the record that the words begin with ends where its own act and length say; a malformed one ends reading
+unfoldable pub afterRecord : Option (Read Change) → Standing → Standing
+afterRecord none s = stop s
+afterRecord (some r) s = afterArrival (arrival (s .memory) (changeWords (r .value)) (s .numbers)) (length (changeWords (r .value))) s
+
+-- the input behind what was taken; a broken word leaves no whole word, which is malformed
+abbrev pub behind : Standing → List ℕ → List ℕ
+behind s input = drop (4 * s .words) input
+
+unfoldable pub afterNext : Standing → List ℕ → Standing
+afterNext s input = afterRecord (readFirst (wordsOf (behind s input))) s
+
+-- record after record, while more than `keep` bytes of the input are left; each turn takes one, so that the input's length is enough of them
+unfoldable pub heldFrom : ℕ → ℕ → Standing → List ℕ → Standing
+heldFrom keep zero s input = s
+heldFrom keep (suc turns) s input =
+    cond (s .stopped || leb (length (behind s input)) keep) s (heldFrom keep turns (afterNext s input) input)
+
+-- a fresh standby's numbers
+abbrev pub unnumbered : Numbers
+unnumbered = record { n = 0; h = 0 }
+
+-- memory m and the numbers s before any of the input
+abbrev pub beginning : List ℕ → Numbers → Standing
+beginning m s = record { memory = m; numbers = s; words = 0; stopped = false }
+
+-- all of the input
+abbrev pub held : List ℕ → Numbers → List ℕ → Standing
+held m s input = heldFrom 0 (length input) (beginning m s) input
+
+-- ---- part by part
+
+-- a record has at most 344 words; where no more bytes than these are left of a part, the record there may go on in the next one
+abbrev pub keptBytes : ℕ
+keptBytes = 1375
+
+-- behind w words of the input
+unfoldable pub counted : ℕ → Standing → Standing
+counted w s = record { memory = s .memory; numbers = s .numbers; words = w + s .words; stopped = s .stopped }
+
+-- goes on with what is left of the part before and the next part behind it, unless reading stopped; parts are as the whole: `in-parts`
+unfoldable pub heldOn : ℕ → Standing → List ℕ → Standing
+heldOn keep s input =
+    cond (s .stopped) s (counted (s .words) (heldFrom keep (length input) (beginning (s .memory) (s .numbers)) input))
+
+-- ---- as the code has it
+
+abbrev pub isRefused : Arrival → Bool
+isRefused Applied = false
+isRefused Repeat = false
+isRefused Early = false
+isRefused (Refused cause) = true
+
+-- memory m and what was held
+abbrev pub standing : List ℕ → Held → Standing
+standing m r = record { memory = m; numbers = r .numbers; words = r .words; stopped = r .stopped }
+
+-- memory m′ and the answer r are the standing s
+pub record Holds (s : Standing) (m′ : List ℕ) (r : Held) : Type 0 where
+  pub memory : m′ ≡ s .memory
+  pub numbers : r .numbers ≡ s .numbers
+  pub words : r .words ≡ s .words
+  pub stopped : r .stopped ≡ s .stopped

@@ -1,0 +1,4 @@
+pub mod Holding
+pub mod Input
+pub mod Escaping
+pub mod Lines

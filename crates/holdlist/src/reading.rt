@@ -6,7 +6,7 @@ use records::Record;
 use records::reading::read_record;
 use standby::Arrival;
 use standby::Numbers;
-use standby::arriving::arrive;
+use standby::arriving::take_record;
 use table::reading::word_at;
 ghost use mathlib.Core.Path.{_≡_};
 ghost use mathlib.Core.Bool.{true};
@@ -78,7 +78,7 @@ fn hold_record(mem: &mut [u8], held: Held, words: &[u32]) -> Held
     ensures { λ r. ⌜ Holds (afterArrival (arrival (now (mem .entry)) (now (words .entry)) (held .numbers)) (length (now (words .entry))) (standing (now (mem .entry)) held)) (now (mem .exit)) r ⌝ }
 {
     let before = held.numbers;
-    let arrived = arrive(mem, words, before);
+    let arrived = take_record(mem, words, before);
     let answer = arrived.answer;
     if is_refused(answer) {
         return stop(held);

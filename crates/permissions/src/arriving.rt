@@ -3,7 +3,7 @@ use crate::refused;
 use standby::Arrival;
 use standby::Numbers;
 use standby::Owed;
-use standby::arriving::arrive;
+use standby::arriving::take_record;
 use standby::owing::owed;
 ghost use mathlib.Core.Path.{_≡_};
 ghost use Rattle.permissions.specs.Numbers.{arrivalNumber};
@@ -25,7 +25,7 @@ fn arrival_number(answer: Arrival) -> i32
 pub extern "C" fn permissions_arrive(mem: &mut [u8], n: &mut u64, h: &mut u64, words: &[u32]) -> i32
     ensures { λ r. ⌜ ExportedArrive (now (mem .entry)) (now (words .entry)) (now (n .entry)) (now (h .entry)) (now (mem .exit)) (now (n .exit)) (now (h .exit)) r ⌝ }
 {
-    let arrived = arrive(mem, words, Numbers { n: *n, h: *h });
+    let arrived = take_record(mem, words, Numbers { n: *n, h: *h });
     let numbers = arrived.numbers;
     *n = numbers.n;
     *h = numbers.h;

@@ -1,5 +1,9 @@
+pub mod WordLaws
 pub mod RecordLaws
 pub mod WrittenLaws
 pub mod SpellingLaws
 pub mod WritingLaws
 pub mod ReadingLaws
+pub mod Walk
+pub mod Lent
+pub mod Nexts

@@ -1,3 +1,4 @@
 pub mod Records
+pub mod Words
 pub mod Answers
 pub mod Steps

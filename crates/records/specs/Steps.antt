@@ -1,4 +1,4 @@
--- Steps of the reader: a length, the bytes that words hold, a path, and the act of a head that takes one.
+-- Steps of reading a record: a length, the bytes that words hold, a path, and what a head that takes a path or switches comes to.
 use Prim.Native.Nat.{ℕ, zero, suc, _+_, _/_}
 use mathlib.Core.Path.{_≡_}
 use mathlib.Core.List.{List, [], _∷_}
@@ -9,10 +9,16 @@ use Rattle.paths.specs.Components.{same}
 use Rattle.paths.specs.Resolving.{isResolved}
 use Rattle.paths.specs.Copying.{begun}
 use Rattle.table.specs.declared.Kind.the-variants.{G, D, P, I}
+use Rattle.table.specs.declared.Action.the-variants.{SetSwitches}
 use Rattle.table.specs.Acts.{Act, revoke}
+use Rattle.table.specs.Carrying.{actionOf}
 use Rattle.records.specs.declared.PathRead.{PathRead}
 use Rattle.records.specs.declared.PathRead.the-variants as path-answer
-use Rattle.records.specs.Records.{Read, pathWords, pathPart, isLength, lowOfWord, insertOf, first, second, third}
+use Rattle.records.specs.declared.Record.{Record}
+use Rattle.records.specs.declared.Record.the-variants as answer
+use Rattle.records.specs.declared.words.Word.{Word}
+use Rattle.records.specs.declared.words.Word.the-variants.{Is, End}
+use Rattle.records.specs.Records.{Read, pathWords, isLength, isSwitches, lowOfWord, insertOf, first, second, third, readPath}
 
 -- ---- a path's words by their places
 
@@ -27,10 +33,15 @@ wordBytes (w ∷ ws) = first w ∷ second w ∷ third w ∷ wordBytes ws
 
 -- ---- reading a path
 
--- the length that words begin with; 0 is none
-unfoldable pub lengthIn : List ℕ → ℕ
-lengthIn [] = 0
-lengthIn (w ∷ ws) = cond (isLength w) (lowOfWord w) 0
+-- the length that a word says; 0 is none
+unfoldable pub lengthOf : Word → ℕ
+lengthOf End = 0
+lengthOf (Is w) = cond (isLength w) (lowOfWord w) 0
+
+-- the path whose length a word says, from the words behind that word
+unfoldable pub pathBehind : Word → List ℕ → Option (Read (List ℕ))
+pathBehind End ws = none
+pathBehind (Is w) ws = readPath (w ∷ ws)
 
 -- the words from `at` on begin with those of p, and p is in resolved form
 unfoldable pub isPathAt : List ℕ → ℕ → List ℕ → Bool
@@ -41,10 +52,10 @@ pub record HandsOver (words : List ℕ) (at : ℕ) (p space : List ℕ) (r : Boo
   pub answer : r ≡ isPathAt words at p
   pub bytes : after ≡ cond r (begun p space) space
 
--- a path that was read from `at` on: its length, and where the words behind it begin
+-- a path whose words begin at `at`: its length, and where the words behind it begin
 unfoldable pub pathAnswer : ℕ → Option (Read (List ℕ)) → PathRead
 pathAnswer at none = path-answer.Malformed
-pathAnswer at (some r) = path-answer.Path (length (r .value)) (at + length (pathPart (r .value)))
+pathAnswer at (some r) = path-answer.Path (length (r .value)) (at + length (pathWords (r .value)))
 
 -- it stands from the space's start, or the space is as it was
 unfoldable pub pathInto : Option (Read (List ℕ)) → List ℕ → List ℕ
@@ -55,7 +66,7 @@ pub record ReadsPath (at : ℕ) (path : Option (Read (List ℕ))) (space : List 
   pub answer : r ≡ pathAnswer at path
   pub bytes : after ≡ pathInto path space
 
--- ---- an act
+-- ---- a record by its second word
 
 -- the act of a head that takes a path: 1 to 4 insert, and the other one, 6, revokes
 unfoldable pub pathAct : ℕ → List ℕ → Act
@@ -65,3 +76,13 @@ pathAct (suc (suc zero)) = insertOf D
 pathAct (suc (suc (suc zero))) = insertOf I
 pathAct (suc (suc (suc (suc zero)))) = insertOf P
 pathAct (suc (suc (suc (suc (suc n))))) = revoke
+
+-- the record of a head that takes a path, by what reading the path answered
+unfoldable pub pathRecord : ℕ → ℕ → PathRead → Record
+pathRecord number act path-answer.Malformed = answer.Malformed
+pathRecord number act (path-answer.Path n end) = answer.Change number (actionOf (some (pathAct act []))) n end
+
+-- the record of a head that takes switches, by its second word, and by where the words behind that begin
+unfoldable pub switchesRecord : ℕ → Word → ℕ → Record
+switchesRecord number End end = answer.Malformed
+switchesRecord number (Is w) end = cond (isSwitches w) (answer.Change number (SetSwitches (lowOfWord w)) 0 end) answer.Malformed

@@ -2,6 +2,7 @@
 use table::Action;
 
 pub mod reading;
+pub mod words;
 pub mod writing;
 
 // The kinds of a word, in its top four bits, and what stands below them.

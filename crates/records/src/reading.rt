@@ -6,6 +6,8 @@ use crate::PATH_ROOM;
 use crate::PathRead;
 use crate::Record;
 use crate::SWITCHES;
+use crate::words::Word;
+use crate::words::read_front;
 use crate::writing::path_word;
 use crate::writing::words_for;
 use paths::MAX_PATH;
@@ -17,24 +19,23 @@ use table::MAX_SWITCHES;
 ghost use mathlib.Core.Path.{_≡_};
 ghost use mathlib.Core.List.{List};
 ghost use mathlib.Core.Option.{some};
-ghost use Prim.Native.Nat.{ℕ, _+_, _*_, _<_, _≤_};
+ghost use Prim.Native.Nat.{ℕ, _+_, _-_, _*_, _≤_};
 ghost use lib.ListN.{length, take, drop};
 ghost use Rattle.paths.specs.Components.{same};
 ghost use Rattle.paths.specs.Copying.{overwrite};
 ghost use Rattle.paths.specs.Resolving.{maxPath};
 ghost use Rattle.table.specs.Carrying.{actionOf};
-ghost use Rattle.records.specs.Records.{pathWords, readPath, readSwitches, withPath, withNumber, readFirst};
-ghost use Rattle.records.specs.Answers.{recordAnswer, ReadsRecord};
-ghost use Rattle.records.specs.Steps.{wordsFor, wordBytes, lengthIn, HandsOver, ReadsPath, pathAct};
+ghost use Rattle.records.specs.Records.{pathWords, readFirst};
+ghost use Rattle.records.specs.Answers.{ReadsRecord};
+ghost use Rattle.records.specs.Steps.{wordsFor, wordBytes, lengthOf, HandsOver, pathBehind, ReadsPath, pathAct, pathRecord, switchesRecord};
 
-// The path length that the word at a place says, or 0 if it is no length word.
-fn path_length(words: &[u32], at: usize) -> usize
-    ensures { λ r. ⌜ r ≡ lengthIn (drop at (now (words .entry))) ⌝ }
+// The path length that a word says, or 0 if it is no length word.
+fn path_length(word: Word) -> usize
+    ensures { λ r. ⌜ r ≡ lengthOf word ⌝ }
 {
-    if at >= words.len() {
+    let Word::Is(word) = word else {
         return 0;
-    }
-    let word = words[at];
+    };
     if word / KIND_UNIT != LENGTH {
         return 0;
     }
@@ -92,25 +93,32 @@ fn hand_over(words: &[u32], at: usize, p: &[u8], space: &mut [u8; MAX_PATH]) -> 
     true
 }
 
-// Reads a length and its path into the lent space. The path is put there only when all of it is in order.
-fn read_path(words: &[u32], at: usize, space: &mut [u8; MAX_PATH]) -> PathRead
-    ensures { λ r. ⌜ ReadsPath at (readPath (drop at (now (words .entry)))) (now (space .entry)) r (now (space .exit)) ⌝ }
+// Reads a path into the lent space: its length is what the second word says, and its words begin at a place, behind which so many words are
+// left. The path is put there only when all of it is in order.
+fn read_path(
+    words: &[u32],
+    second: Word,
+    at: usize,
+    left: usize,
+    space: &mut [u8; MAX_PATH],
+) -> PathRead
+    requires { ⌜ left ≡ length (now words) - at ⌝ }
+    ensures { λ r. ⌜ ReadsPath at (pathBehind second (drop at (now (words .entry)))) (now (space .entry)) r (now (space .exit)) ⌝ }
 {
-    let n = path_length(words, at);
+    let n = path_length(second);
     if n == 0 {
         return PathRead::Malformed;
     }
-    let start = at + 1;
     let count = words_for(n);
-    if words.len() - start < count {
+    if left < count {
         return PathRead::Malformed;
     }
     let mut work = [0u8; PATH_ROOM];
-    take_bytes(words, start, count, &mut work);
-    if !hand_over(words, start, &work[0..n], space) {
+    take_bytes(words, at, count, &mut work);
+    if !hand_over(words, at, &work[0..n], space) {
         return PathRead::Malformed;
     }
-    PathRead::Path(n, start + count)
+    PathRead::Path(n, at + count)
 }
 
 // The act of a head that takes a path.
@@ -126,33 +134,23 @@ fn path_action(act: u8) -> Action
     }
 }
 
-// Reads a record whose head takes a path.
-fn read_with_path(
-    words: &[u32],
-    from: usize,
-    number: u64,
-    act: u8,
-    space: &mut [u8; MAX_PATH],
-) -> Record
-    requires { ⌜ (from < length (now words)) × (0 < number) ⌝ }
-    ensures { λ r. ⌜ ReadsRecord from (withNumber number (withPath (pathAct act) (readPath (drop (from + 1) (now (words .entry)))))) (now (space .entry)) r (now (space .exit)) ⌝ }
+// The record of a head that takes a path, by what reading the path answered.
+fn with_path(number: u64, act: u8, path: PathRead) -> Record
+    ensures { λ r. ⌜ r ≡ pathRecord number act path ⌝ }
 {
-    let PathRead::Path(n, end) = read_path(words, from + 1, space) else {
+    let PathRead::Path(n, end) = path else {
         return Record::Malformed;
     };
     Record::Change(number, path_action(act), n, end)
 }
 
-// Reads a record whose head takes switches.
-fn read_with_switches(words: &[u32], from: usize, number: u64) -> Record
-    requires { ⌜ (from < length (now words)) × (0 < number) ⌝ }
-    ensures { λ r. ⌜ r ≡ recordAnswer from (withNumber number (readSwitches (drop (from + 1) (now (words .entry))))) ⌝ }
+// The record of a head that takes switches, which the second word says; the words behind it begin at `end`.
+fn with_switches(number: u64, second: Word, end: usize) -> Record
+    ensures { λ r. ⌜ r ≡ switchesRecord number second end ⌝ }
 {
-    let at = from + 1;
-    if at == words.len() {
+    let Word::Is(word) = second else {
         return Record::Malformed;
-    }
-    let word = words[at];
+    };
     if word / KIND_UNIT != SWITCHES {
         return Record::Malformed;
     }
@@ -160,7 +158,7 @@ fn read_with_switches(words: &[u32], from: usize, number: u64) -> Record
     if switches > MAX_SWITCHES as u32 {
         return Record::Malformed;
     }
-    Record::Change(number, Action::SetSwitches(switches as u8), 0, from + 2)
+    Record::Change(number, Action::SetSwitches(switches as u8), 0, end)
 }
 
 // Reads the record that the words from a place on begin with, and its path into the lent space. A head's kind and act bits together
@@ -168,18 +166,24 @@ fn read_with_switches(words: &[u32], from: usize, number: u64) -> Record
 pub fn read_record(words: &[u32], from: usize, space: &mut [u8; MAX_PATH]) -> Record
     ensures { λ r. ⌜ ReadsRecord from (readFirst (drop from (now (words .entry)))) (now (space .entry)) r (now (space .exit)) ⌝ }
 {
-    if from >= words.len() {
+    let front = read_front(words, from);
+    let first = front.head;
+    let Word::Is(head) = first else {
         return Record::Malformed;
-    }
-    let head = words[from];
+    };
     let number = (head % ACT_UNIT) as u64;
     if number == 0 {
         return Record::Malformed;
     }
+    let second = front.second;
     let top = (head / ACT_UNIT) as u8;
     match top {
-        0x11..=0x14 | 0x16 => read_with_path(words, from, number, top % 16, space),
-        0x15 => read_with_switches(words, from, number),
+        0x11..=0x14 | 0x16 => with_path(
+            number,
+            top % 16,
+            read_path(words, second, front.at, front.left, space),
+        ),
+        0x15 => with_switches(number, second, front.at),
         0x17 => Record::Change(number, Action::RevokeAll, 0, from + 1),
         0..=0x10 | 0x18..=0xFF => Record::Malformed,
     }

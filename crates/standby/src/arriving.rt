@@ -66,8 +66,8 @@ fn take_change(mem: &mut [u8], numbers: Numbers, number: u64, action: Action, q:
     }
 }
 
-// Takes the record that the lent words are.
-pub fn arrive(mem: &mut [u8], words: &[u32], numbers: Numbers) -> Arrived
+// Takes the record that the lent words are. The numbers come and go by value.
+pub fn take_record(mem: &mut [u8], words: &[u32], numbers: Numbers) -> Arrived
     ensures { λ r. ⌜ Arrives (now (mem .entry)) (now (words .entry)) numbers (now (mem .exit)) (r .numbers) (r .answer) ⌝ }
 {
     if !holds_table(mem) {
@@ -86,4 +86,13 @@ pub fn arrive(mem: &mut [u8], words: &[u32], numbers: Numbers) -> Arrived
             take_change(mem, numbers, number, action, &space[..size])
         }
     }
+}
+
+// An arrival: the lent numbers are taken out, and what they are after it is put back. Its proof is a walk by hand.
+pub fn arrive(mem: &mut [u8], words: &[u32], numbers: &mut Numbers) -> Arrival
+    ensures { λ r. ⌜ Arrives (now (mem .entry)) (now (words .entry)) (now (numbers .entry)) (now (mem .exit)) (now (numbers .exit)) r ⌝ }
+{
+    let arrived = take_record(mem, words, *numbers);
+    *numbers = arrived.numbers;
+    arrived.answer
 }

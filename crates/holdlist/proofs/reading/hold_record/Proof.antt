@@ -5,8 +5,8 @@ use borrow.Author.Needs.{needs}
 use Rattle.holdlist.proofs.reading.hold_record.Statement.{statement}
 use Rattle.holdlist.proofs.reading.hold_record.Tie as tie
 
-arrive-requires : tie.Need-arrive-requires
-arrive-requires c κs = search needs
+take-record-requires : tie.Need-take-record-requires
+take-record-requires c κs = search needs
 
 is-refused-requires : tie.Need-is-refused-requires
 is-refused-requires c κs = search needs
@@ -21,7 +21,7 @@ returns : tie.Need-returns
 returns c =
     let test = c .before in
     let a = test .before .before .before .before .before .before .before .before .before .args in
-    holds-refused _ (a .held) (test .before .before .before .before .arrive .ensures) (sym (test .before .is-refused .ensures) ∙ test .if1 .taken) (c .stop .ensures)
+    holds-refused _ (a .held) (test .before .before .before .before .take-record .ensures) (sym (test .before .is-refused .ensures) ∙ test .if1 .taken) (c .stop .ensures)
 
 add-t12 : tie.Need-add-t12
 add-t12 c = search needs
@@ -33,13 +33,13 @@ returns-2 : tie.Need-returns-2
 returns-2 c =
     let test = c .before .before in
     let a = test .before .before .before .before .before .before .before .before .before .args in
-    holds-taken _ (a .held) (test .before .before .before .before .arrive .ensures) (sym (test .before .is-refused .ensures) ∙ test .if1 .left) refl
+    holds-taken _ (a .held) (test .before .before .before .before .take-record .ensures) (sym (test .before .is-refused .ensures) ∙ test .if1 .left) refl
 
 pub hold-record-spec : {M : Type 1} → statement M
 hold-record-spec =
     tie.close
     (tie.spec
-    arrive-requires
+    take-record-requires
     is-refused-requires
     stop-requires
     same-length

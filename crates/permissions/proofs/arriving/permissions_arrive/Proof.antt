@@ -6,8 +6,8 @@ use borrow.Author.Needs.{needs}
 use Rattle.permissions.proofs.arriving.permissions_arrive.Statement.{statement}
 use Rattle.permissions.proofs.arriving.permissions_arrive.Tie as tie
 
-arrive-requires : tie.Need-arrive-requires
-arrive-requires c κs = search needs
+take-record-requires : tie.Need-take-record-requires
+take-record-requires c κs = search needs
 
 arrival-number-requires : tie.Need-arrival-number-requires
 arrival-number-requires c κs = search needs
@@ -17,8 +17,8 @@ same-length c = search needs
 
 returns : tie.Need-returns
 returns c =
-    let made = c .before .before .before .before .arrive in
+    let made = c .before .before .before .before .take-record in
     record { answered = made .result .answer; promise = made .ensures; number = read-back w32 _ (c .arrival-number .ok) ∙ c .arrival-number .ensures }
 
 pub permissions-arrive-spec : {M : Type 1} → statement M
-permissions-arrive-spec = tie.close (tie.spec arrive-requires arrival-number-requires same-length returns)
+permissions-arrive-spec = tie.close (tie.spec take-record-requires arrival-number-requires same-length returns)

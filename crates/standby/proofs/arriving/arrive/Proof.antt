@@ -1,126 +1,176 @@
--- `arrive` meets its contract: the first cause is found, or the change that was read is taken.
-use mathlib.Core.Path.{_≡_, sym, _∙_}
-use mathlib.Core.Bool.{true}
-use native.Mathlib.Omega.{arith}
-use lib.Seq.{length-take-le}
-use denote.Ref.{now}
-use borrow.Author.Needs.{needs}
-use borrow.Author.Tests.{not-true, not-false}
-use Rattle.table.specs.Memory.{holds}
-use Rattle.standby.proofs.ArrivingLaws.{arrival-no-table, arrival-above, arrival-malformed, reads-none, reads-change, reads-more, comes-refused, comes-taken}
-use Rattle.standby.proofs.arriving.arrive.Statement.{statement}
-use Rattle.standby.proofs.arriving.arrive.Tie as tie
+-- `arrive` meets its contract: a walk of its MIR, by hand. The borrow of `numbers` is opened, what lies behind it is copied out whole, `take_record` is called, and the borrow is
+-- closed at what it returned: so the walk does not depend on the fields. A slice that is lent by `&mut` goes to the callee at its own lifetime, share and ghost name, and is given up
+-- for good; of a `&` slice one copy is kept. All that the proof knows of `take_record` is that it meets its contract.
+-- Assumes nothing.
+use Rattle.records.proofs.Walk.{_≡_, refl, ap, ℕ, [], _∷_, List, length, URA, fullShare, named, Val, vptr, SProp, ent, emp, via, fst∗, id⊢, GName, Lft, Share, ftrue, flft, fobs, fbor, fat, Memory, Routine, Heap, Calls, Loops, WpFn, Tables, Atoms, Fun, fact, givenOf, tables, tablesOf, Given, Item, ‵, raw, _⊛_, ⋆, some, later, _$_, _∵_, !, qed, by, move, keep, drop, use1, split, join, pick, fsplit, fsplit3, fjoin, fjoin3, feqI, feqL, suffices, frame, await, rewrite, done, look, look-raw, store-raw, init, forget, stop, hop, fld, from, load, addr, of-opd, and-then, no-more, assigns, land, returns, enter, alloc1, alloc0, params1, pass1, pass0, free1, free0, agg, whole, sub, look-in, Body, FmC, fmOf, WpFn-mono, owns, Is, shows, mem, u32, u8, RefT, MutRef, ptr-vals, mut-tells, sliceVal, MutSlice, ShrSlice, Room, finally, slice-vals, mut-slice-tells, shr-slice-tells, shr-slice-copy, plain, only, opens, closes, owned, peeks, heard, nothing, spelt, Contract, Triple, calls-at, onEntry, Meets, tripleOf, entered, cited, says, Stays, stay-ref, stay-none-slice, gave-slice, walkOf, goes-none-slice, goes-ref, goes-gave-slice, Walks, ends-at, walked, walk-meets, ensured, lasts, yes}
+use denote.Struct.Laws as LL
+use denote.Enum.Laws as EL
+use Rattle.standby.specs.Arriving.{Arrives}
+use Rattle.standby.specs.declared.Numbers.{Numbers}
+use Rattle.standby.specs.declared.Arrived.{Arrived}
+use Rattle.standby.specs.declared.Arrival.{Arrival}
+use Rattle.standby.proofs.Numbers as T
+use Rattle.standby.proofs.Numbers.Laws as T′
+use Rattle.standby.proofs.Arrived as S
+use Rattle.standby.proofs.Arrived.Laws as S′
+use Rattle.standby.proofs.Arrival as E
+use Rattle.standby.proofs.Arrival.Laws as E′
+use Rattle.standby.proofs.arriving.take_record as core
+use Rattle.standby.proofs.arriving.take_record.Symbol as core-def
+use Rattle.standby.proofs.arriving.take_record.Symbol.{name as #standby·arriving·take-record}
+use Rattle.standby.proofs.arriving.take_record.Met as core-thm
+use Rattle.standby.proofs.arriving.arrive.Key.{name as #standby·arriving·arrive}
+use Rattle.standby.proofs.arriving.arrive as thin
+use Rattle.standby.proofs.arriving.arrive.Statement as stated
+use Rattle.standby.proofs.arriving.arrive.Code as code
 
--- memory holds a table
-held : (c : tie.Else1) → holds (now (c .before .before .before .before .before .args .mem)) ≡ true
-held c = sym (c .before .holds-table .ensures) ∙ not-false _ (c .if1 .left)
+-- the machine values of `numbers` and of the answer
+abbrev num : Numbers → List Val
+num = LL.vals T.the-type T′.the-laws
 
-holds-table-requires : tie.Need-holds-table-requires
-holds-table-requires c κs = search needs
+abbrev ans : Arrival → Val
+ans = EL.val E.the-type E′.the-laws
 
-refused-requires : tie.Need-refused-requires
-refused-requires c κs = search needs
+abbrev stayed : Stays (thin.ended .signature .params) (thin.ended .kept)
+stayed = (gave-slice (0 ∷ []) tt (plain (λ _. u8)), (stay-none-slice (1 ∷ []) tt (plain (λ _. u32)) yes, (stay-ref (2 ∷ []) tt (plain (λ _. T.the-row)), tt)))
 
-same-length : tie.Need-same-length
-same-length c = search needs
+-- the contract that the proof cites
+abbrev Core : {M : Type 1} (𝓤 : URA M) (H : Heap 𝓤) (A : Atoms 𝓤) (mem : Memory → SProp 𝓤) (run : Routine → Fun 𝓤) → Contract 𝓤
+Core 𝓤 H A mem run = tripleOf 𝓤 H A core.signature (core.spec 𝓤 H A mem run)
 
-returns : tie.Need-returns
-returns c =
-    let test = c .before in
-    comes-refused (arrival-no-table _ _ _ (sym (test .before .holds-table .ensures) ∙ not-true _ (test .if1 .taken))) (c .refused .ensures)
+-- by place: 0 is `mem`, 1 is `words` and 2 is `numbers`. κ is a lifetime and q the share of its token; ys₀ is what `mem` holds at entry, zs₀ at exit; z₁ is `words`; h is what lies
+-- behind `numbers`
+module _ {M : Type 1} (𝓤 : URA M) (H : Heap 𝓤) (A : Atoms 𝓤) (W : Given 𝓤 H A) (at-mem : Memory → SProp 𝓤) (run : Routine → Fun 𝓤)
+    (κ₀ κ₁ κ₂ : Lft) (q₀ q₁ q₂ : Share) (b₀ o₀ : ℕ) (γ₀ : GName) (ys₀ : List ℕ) (z₁ : RefT (List ℕ)) (b o : ℕ) (γ : GName) (h : Numbers) where
+  abbrev y₀ : RefT (List ℕ)
+  y₀ = record { ptr = (b₀, o₀); name = γ₀; now = ys₀ }
 
-refused-requires-2 : tie.Need-refused-requires-2
-refused-requires-2 c κs = search needs
+  abbrev s₀ : Val
+  s₀ = sliceVal (y₀ .ptr) (length ys₀)
 
-same-length-2 : tie.Need-same-length-2
-same-length-2 c = search needs
+  abbrev s₁ : Val
+  s₁ = sliceVal (z₁ .ptr) (length (z₁ .now))
 
-returns-2 : tie.Need-returns-2
-returns-2 c = comes-refused (arrival-above _ _ _ (held (c .before .before .before)) (omega arith)) (c .refused2 .ensures)
+  abbrev Arg : Type 0
+  Arg = RefT (List ℕ) × (RefT (List ℕ) × (RefT Numbers × Unit {0}))
 
-read-record-requires : tie.Need-read-record-requires
-read-record-requires c κs = search needs
+  abbrev x : Arg
+  x = (y₀, (z₁, (record { ptr = (b, o); name = γ; now = h }, tt)))
 
-enum-told : tie.Need-enum-told
-enum-told c = search needs
+  abbrev Vals : Type 0
+  Vals = List Val × (List Val × (List Val × Unit {0}))
 
-refused-requires-3 : tie.Need-refused-requires-3
-refused-requires-3 c κs = search needs
+  abbrev at : Vals
+  at = (s₀ ∷ [], (s₁ ∷ [], (vptr b o ∷ [], tt)))
 
-enum-known-number : tie.Need-enum-known-number
-enum-known-number c = search needs
+  abbrev Post : Val → SProp 𝓤
+  Post = walkOf 𝓤 H A thin.ended stayed (thin.clauses 𝓤 H A at-mem run) .post (((κ₀, (κ₁, (κ₂, tt))), (q₀, (q₁, (q₂, tt))), tt, x, at), tt)
 
-refused-requires-4 : tie.Need-refused-requires-4
-refused-requires-4 c κs = search needs
+  -- what the callee is passed
+  abbrev to : Core 𝓤 H A at-mem run .Ghost
+  to = (((κ₀, (κ₁, tt)), (q₀, (q₁, tt)), tt, (y₀, (z₁, (h, tt))), (s₀ ∷ [], (s₁ ∷ [], (num h, tt)))), tt)
 
-same-length-3 : tie.Need-same-length-3
-same-length-3 c = search needs
+  -- what goes into the call, what the callee leaves, and what it ensures
+  abbrev goes : Item 𝓤
+  goes = (‵ (flft κ₀ q₀) ⊛ (‵ (flft κ₁ q₁) ⊛ (‵ (MutSlice (named 0) κ₀ u8 .own y₀ (s₀ ∷ [])) ⊛ ‵ (ShrSlice (named 1) κ₁ u32 .own z₁ (s₁ ∷ [])))))
 
-returns-3 : tie.Need-returns-3
-returns-3 c =
-    let found = c .before .before .before in
-    let read = found .before .before in
-    let more = reads-more _ (read .read-record .ensures) (found .number .given .1) (λ e. omega arith) in
-    comes-refused (arrival-malformed _ _ _ (held (read .before .before .before .before)) (omega arith) more) (c .refused4 .ensures)
+  abbrev leaves : Val → Item 𝓤
+  leaves w = later (some (λ (r : Arrived). ((‵ (flft κ₀ q₀) ⊛ (‵ (flft κ₁ q₁) ⊛ ‵ ftrue)) ⊛ ‵ (S.the-row .own r (w ∷ []))) ⊛ raw (ensured 𝓤 H A core.ended (core.clauses 𝓤 H A at-mem run) (κ₀, (κ₁, tt)) (y₀, (z₁, (h, tt))) tt r)))
 
-array-share-prefix-space : tie.Need-array-share-prefix-space
-array-share-prefix-space c =
-    let found = c .before .before .before in
-    reads-change _ (found .before .before .read-record .ensures) (found .number .given .1) (omega arith) .room
+  abbrev ensures : Arrived → Item 𝓤
+  ensures r = some (λ (zs : List ℕ × (Unit {0} × (Unit {0} × Unit {0}))). ‵ (lasts core.ended (κ₀, (κ₁, tt)) (y₀, (z₁, (h, tt))) zs) ⊛ raw (fact 𝓤 (Arrives ys₀ (z₁ .now) h (zs .0) (r .numbers) (r .answer))))
 
-slice-aggregate-take-change : tie.Need-slice-aggregate-take-change
-slice-aggregate-take-change c = sym (length-take-le _ _ (array-share-prefix-space (c .before)))
+  asked : Is T.the-row h (num h) → ent 𝓤 (⋆ 𝓤 H A (goes ∷ [])) (Core 𝓤 H A at-mem run .pre to)
+  asked was =
+      qed W (goes ∷ []) ∵
+      split ! $ move ! (1 ∷ []) $ split ! $ move ! (1 ∷ []) $ split ! $ nothing ! $ move ! (3 ∷ 0 ∷ []) $ join ! $ move ! (3 ∷ 0 ∷ []) $ join ! $ nothing ! $
+      owned ! T.the-row (Is T.the-row) (LL.makes T.the-type T′.the-plain 𝓤 H A) h _ was $ fjoin ! $ move ! (3 ∷ 0 ∷ []) $ fjoin ! $ move ! (2 ∷ 0 ∷ []) $ fjoin ! $
+      keep ! (1 ∷ 0 ∷ []) $ join ! $ frame ! $ done !
 
-take-change-requires : tie.Need-take-change-requires
-take-change-requires c κs =
-    let found = c .before .before .before .before in
-    let read = found .before .before in (
-      held (read .before .before .before .before),
-      reads-change _ (read .read-record .ensures) (found .number .given .1) (omega arith) .fitting,
-    )
+  -- what is had at exit
+  abbrev ends : Arrived → List ℕ → List (Item 𝓤)
+  ends r zs₀ = ‵ (fobs γ (T.the-row .coded .code (r .numbers))) ∷ ‵ (fbor κ₂ (Body (mem T.the-row) b o γ)) ∷ ‵ (flft κ₂ q₂) ∷ (‵ (flft κ₀ q₀) ⊛ (‵ (flft κ₁ q₁) ⊛ ‵ ftrue)) ∷ ‵ (finally u8 γ₀ zs₀) ∷ ‵ (ShrSlice (named 1) κ₁ u32 .own z₁ (s₁ ∷ [])) ∷ []
 
-same-length-4 : tie.Need-same-length-4
-same-length-4 c = search needs
+  exits : (r : Arrived) (zs₀ : List ℕ) → Arrives ys₀ (z₁ .now) h zs₀ (r .numbers) (r .answer) → length zs₀ ≡ length ys₀ → Is E.the-row (r .answer) (ans (r .answer) ∷ [])
+      → ent 𝓤 (⋆ 𝓤 H A (ends r zs₀)) (Post (ans (r .answer)))
+  exits r zs₀ e len₀ is =
+      qed W (ends r zs₀) ∵
+      suffices ! _ (ends-at 𝓤 H A thin.ended stayed (thin.clauses 𝓤 H A at-mem run) W (((κ₀, (κ₁, (κ₂, tt))), (q₀, (q₁, (q₂, tt))), tt, x, at), tt)
+      (ans (r .answer)) (r .answer) (zs₀, (tt, (r .numbers, tt))) (len₀, (tt, (tt, tt)))) $ says ! e $
+      move ! (3 ∷ []) $ split ! $ move ! (1 ∷ []) $ split ! $ nothing ! $ move ! (6 ∷ 0 ∷ []) $ join ! $ move ! (1 ∷ 0 ∷ []) $ join ! $ move ! (2 ∷ 0 ∷ []) $ join ! $ frame ! $
+      move ! (1 ∷ 2 ∷ []) $ feqI ! (List Val) (vptr b o ∷ []) (vptr b o ∷ []) refl $ fjoin3 ! $ nothing ! $ move ! (1 ∷ 0 ∷ []) $ fjoin ! $ move ! (3 ∷ 0 ∷ []) $ fjoin ! $
+      move ! (2 ∷ 0 ∷ []) $ fjoin ! $
+      owned ! E.the-row (Is E.the-row) (EL.makes E.the-type E′.the-plain 𝓤 H A) (r .answer) _ is $ keep ! (1 ∷ 0 ∷ []) $ done !
 
-returns-4 : tie.Need-returns-4
-returns-4 c =
-    let read = c .before .before .before in
-    let malformed = reads-none _ (read .read-record .ensures) (c .before .enum-told .given .1) in
-    comes-refused (arrival-malformed _ _ _ (held (read .before .before .before .before)) (omega arith) malformed) (c .refused3 .ensures)
+  module _ (C : Calls 𝓤 H) (Λ : Loops 𝓤 H) (fm : FmC 𝓤 H (W .laws) C) (known : Triple 𝓤 (C #standby·arriving·take-record) (Core 𝓤 H A at-mem run)) where
+    walk : Room u8 (length ys₀) → Room u32 (length (z₁ .now))
+        → ent 𝓤 (onEntry 𝓤 H A thin.signature (κ₀, (κ₁, (κ₂, tt))) (q₀, (q₁, (q₂, tt))) x at) (WpFn 𝓤 H C Λ code.function (s₀ ∷ s₁ ∷ vptr b o ∷ []) Post)
+    walk room₀ room₁ =
+        qed W ((‵ (flft κ₀ q₀) ⊛ (‵ (flft κ₁ q₁) ⊛ (‵ (flft κ₂ q₂) ⊛ ‵ ftrue))) ∷ ‵ (owns (MutSlice (named 0) κ₀ u8 ∷ ShrSlice (named 1) κ₁ u32 ∷ MutRef (named 2) κ₂ T.the-row ∷ []) x at) ∷ []) ∵
+        enter ! C Λ code.function (s₀ ∷ s₁ ∷ vptr b o ∷ []) _ $
+        alloc1 ! (λ l₀. alloc1 ! (λ l₁. alloc1 ! (λ l₂. alloc1 ! (λ l₃. alloc1 ! (λ l₄. alloc1 ! (λ l₅. alloc1 ! (λ l₆. alloc1 ! (λ l₇. alloc0 ! $ params1 ! $
+        pass1 ! (init ! 12 refl (tt, (tt, (record { fits = room₀ .0 }, tt)))) $ pass1 ! (init ! 10 refl (tt, (tt, (record { fits = room₁ .0 }, tt)))) $
+        pass1 ! (init ! 8 refl (tt, tt)) $ pass0 ! $
+        -- what each parameter owns; the borrow of `numbers` is opened
+        move ! (17 ∷ []) $ fsplit ! $ move ! (1 ∷ []) $ fsplit ! $ move ! (1 ∷ []) $ fsplit ! $ move ! (2 ∷ []) $
+        use1 W (‵ (ShrSlice (named 1) κ₁ u32 .own z₁ (s₁ ∷ [])) ⊛ ‵ (ShrSlice (named 1) κ₁ u32 .own z₁ (s₁ ∷ []))) (shr-slice-copy 𝓤 H A W (named 1) κ₁ u32 .twice z₁ (s₁ ∷ [])) $
+        split ! $ move ! (2 ∷ []) $ fsplit3 ! $ drop ! $ move ! (22 ∷ []) $ split ! $ move ! (1 ∷ []) $ split ! $ move ! (1 ∷ []) $ split ! $ move ! (4 ∷ 5 ∷ 0 ∷ []) $
+        opens ! tt T.the-row {h = h} b o (λ vs. spelt ! T.the-row (Is T.the-row) (shows 𝓤 H A T.the-row) num (LL.tells T.the-type T′.the-laws) fullShare h vs b o $ move ! (1 ∷ []) $
+        peeks ! T.the-row (Is T.the-row) (shows 𝓤 H A T.the-row) h (num h) (λ was. move ! (1 ∷ 0 ∷ []) $
+        -- [the lent cell; what it owns; the open borrow; obs; auth; true; words's token; mem's token; what words owns; the same again; true; what mem owns; _7 to _0]
+        assigns ! (addr ! (from ! (fld ! refl (hop ! (look-in ! 24 (sub ! 0 refl (whole !))) (stop !))))) (from ! (stop !)) (init ! 16 refl (tt, tt)) $
+        assigns ! (agg ! (and-then ! (load ! (from ! (stop !)) (look ! 16 refl)) (and-then ! (load ! (from ! (fld ! refl (stop !))) (look-in ! 24 (sub ! 1 refl (whole !)))) (no-more !)))) (from ! (stop !))
+        (init ! 14 refl (tt, (tt, (record { fits = room₀ .0 }, tt)))) $
+        assigns ! (of-opd ! (load ! (from ! (hop ! (look ! 20 refl) (stop !))) (look-raw ! 0 refl))) (from ! (stop !))
+        (init ! 12 refl (LL.lawful T.the-type T′.the-laws 𝓤 H A W .typed h _ was .0)) $
+        -- the call
+        move ! (11 ∷ 8 ∷ []) $ join ! $ move ! (7 ∷ 0 ∷ []) $ join ! $ move ! (7 ∷ 0 ∷ []) $ join ! $ use1 W (raw (Core 𝓤 H A at-mem run .pre to)) (asked was) $
+        calls-at ! fm (Core 𝓤 H A at-mem run) known to
+        (and-then ! (load ! (from ! (stop !)) (look ! 11 refl)) (and-then ! (load ! (from ! (stop !)) (look ! 19 refl)) (and-then ! (load ! (from ! (stop !)) (look ! 9 refl)) (no-more !)))) (λ w.
+        use1 W (leaves w) (id⊢ 𝓤 _) $ await ! tt $ pick ! (λ r.
+        -- what the core ensures, at the last lists
+        split ! $ move ! (1 ∷ []) $ use1 W (ensures r) (id⊢ 𝓤 _) $ pick ! (λ zs. split ! $ move ! (1 ∷ []) $
+        heard ! (Arrives ys₀ (z₁ .now) h (zs .0) (r .numbers) (r .answer)) (λ e. fsplit ! $ fsplit ! $ move ! (1 ∷ []) $ feqL ! (λ len₀.
+        move ! (2 ∷ []) $ split ! $ move ! (1 ∷ []) $ peeks ! S.the-row (Is S.the-row) (shows 𝓤 H A S.the-row) r (w ∷ []) (λ is.
+        land ! (from ! (stop !)) (init ! 18 refl (LL.lawful S.the-type S′.the-laws 𝓤 H A W .typed r _ is .0)) $
+        rewrite ! 18 (λ (u : Val). ‵ (fat fullShare S′.mir l₄ 0 u)) (ap only (LL.tells S.the-type S′.the-laws r _ is)) refl $
+        assigns ! (of-opd ! (load ! (from ! (fld ! refl (stop !))) (look-in ! 18 (sub ! 1 refl (whole !))))) (from ! (hop ! (look ! 20 refl) (stop !)))
+        (store-raw ! 4 refl (LL.lawful T.the-type T′.the-laws 𝓤 H A W .typed (r .numbers) _ (LL.owed S.the-type S′.the-laws r _ is .1 .0) .0)) $
+        assigns ! (of-opd ! (load ! (from ! (fld ! refl (stop !))) (look-in ! 18 (sub ! 0 refl (whole !))))) (from ! (stop !))
+        (init ! 26 refl (EL.lawful E.the-type E′.the-laws 𝓤 H A W tt .typed (r .answer) _ (LL.owed S.the-type S′.the-laws r _ is .0) .0)) $
+        -- the borrow is closed at what the core returned: [what the result owns; the callee's tokens; mem's last list; true; the lent cell; what it owns; the open borrow; obs; auth;
+        -- true; the same again; true; _7 to _0]
+        drop ! $ owned ! T.the-row (Is T.the-row) (LL.makes T.the-type T′.the-plain 𝓤 H A) (r .numbers) _ (LL.owed S.the-type S′.the-laws r _ is .1 .0) $
+        move ! (4 ∷ 0 ∷ 6 ∷ 7 ∷ 8 ∷ []) $ closes ! tt T.the-row (r .numbers) (num (r .numbers)) b o $
+        returns ! (look ! 24 refl) $ forget ! 10 refl $ forget ! 12 refl $ forget ! 14 refl $ forget ! 16 refl $ forget ! 18 refl $ forget ! 20 refl $ forget ! 22 refl $
+        forget ! 24 refl $
+        move ! (24 ∷ 25 ∷ []) $ free1 ! $ move ! (22 ∷ 23 ∷ []) $ free1 ! $ move ! (20 ∷ 21 ∷ []) $ free1 ! $ move ! (18 ∷ 19 ∷ []) $ free1 ! $ move ! (16 ∷ 17 ∷ []) $ free1 ! $
+        move ! (14 ∷ 15 ∷ []) $ free1 ! $ move ! (12 ∷ 13 ∷ []) $ free1 ! $ move ! (10 ∷ 11 ∷ []) $ free1 ! $ free0 ! $ keep ! (0 ∷ 1 ∷ 2 ∷ 3 ∷ 4 ∷ 8 ∷ []) $
+        by ! (exits r (zs .0) e len₀ (LL.owed S.the-type S′.the-laws r _ is .0))))))))))))))))))
 
-same-length-5 : tie.Need-same-length-5
-same-length-5 c = search needs
+module _ {M : Type 1} (𝓤 : URA M) (H : Heap 𝓤) (A : Atoms 𝓤) (W : Given 𝓤 H A) (mem : Memory → SProp 𝓤) (run : Routine → Fun 𝓤) where
+  arrive-walks : (C : Calls 𝓤 H) (Λ : Loops 𝓤 H) → FmC 𝓤 H (W .laws) C → Triple 𝓤 (C #standby·arriving·take-record) (Core 𝓤 H A mem run)
+      → Walks 𝓤 H A thin.ended stayed (WpFn 𝓤 H C Λ code.function) (thin.clauses 𝓤 H A mem run)
+  arrive-walks C Λ fm known =
+      walked 𝓤 H A thin.ended stayed (thin.clauses 𝓤 H A mem run) (WpFn 𝓤 H C Λ code.function)
+      (λ κs. (slice-vals, (slice-vals, (ptr-vals, tt))))
+      (λ κs. (mut-slice-tells (named 0) (κs .0) u8, (shr-slice-tells (named 1) (κs .1 .0) u32, (mut-tells (named 2) (κs .1 .1 .0) T.the-row, tt))))
+      (λ κs qs bounds a g are. via 𝓤 _ (fst∗ 𝓤 _ (emp 𝓤))
+      (walk 𝓤 H A W mem run (κs .0) (κs .1 .0) (κs .1 .1 .0) (qs .0) (qs .1 .0) (qs .1 .1 .0) (a .0 .ptr .0) (a .0 .ptr .1) (a .0 .name) (a .0 .now) (a .1 .0) (a .1 .1 .0 .ptr .0) (a .1 .1 .0 .ptr .1) (a .1 .1 .0 .name) (a .1 .1 .0 .now) C Λ fm known (are .0 .0 .1) (are .1 .0 .0 .1)))
 
-returns-5 : tie.Need-returns-5
-returns-5 c =
-    let taken = c .before .before in
-    let found = taken .before .before .before .before .before in
-    let read = found .before .before in
-    let change = reads-change _ (read .read-record .ensures) (found .number .given .1) (omega arith) in
-    comes-taken _ change (taken .take-change .ensures) (held (read .before .before .before .before)) (omega arith)
+arrive-meets : {M : Type 1} (𝓤 : URA M) (H : Heap 𝓤) (A : Atoms 𝓤) → Given 𝓤 H A → (mem : Memory → SProp 𝓤) (run : Routine → Fun 𝓤) (𝓣 : Tables 𝓤 H)
+    → Triple 𝓤 (𝓣 .C #standby·arriving·take-record) (Core 𝓤 H A mem run)
+    → Meets 𝓤 H A thin.signature (WpFn 𝓤 H (𝓣 .C) (𝓣 .Λ) code.function) (thin.spec 𝓤 H A mem run)
+arrive-meets 𝓤 H A W mem run 𝓣 known =
+    walk-meets 𝓤 H A thin.ended stayed W
+    (goes-gave-slice 𝓤 H A W 3 0 tt (plain (λ _. u8)), (goes-none-slice 𝓤 H A W 3 (1 ∷ []) tt (plain (λ _. u32)) yes, (goes-ref 𝓤 H A W 3 2 tt (plain (λ _. T.the-row)), tt)))
+    (thin.clauses 𝓤 H A mem run) (WpFn 𝓤 H (𝓣 .C) (𝓣 .Λ) code.function) (WpFn-mono 𝓤 H (W .laws) 𝓣 code.function)
+    (arrive-walks 𝓤 H A W mem run (𝓣 .C) (𝓣 .Λ) (fmOf 𝓤 H (W .laws) 𝓣) known)
 
-pub arrive-spec : {M : Type 1} → statement M
-arrive-spec =
-    tie.close
-    (tie.spec
-    holds-table-requires
-    refused-requires
-    same-length
-    returns
-    refused-requires-2
-    same-length-2
-    returns-2
-    read-record-requires
-    enum-told
-    refused-requires-3
-    enum-known-number
-    refused-requires-4
-    same-length-3
-    returns-3
-    array-share-prefix-space
-    slice-aggregate-take-change
-    take-change-requires
-    same-length-4
-    returns-4
-    same-length-5
-    returns-5)
+pub arrive-spec : {M : Type 1} → stated.statement M
+unfolding code.routine tablesOf
+arrive-spec 𝓤 H 𝓜 𝓖 𝓡 =
+    entered 𝓤 H (tripleOf 𝓤 H (𝓖 .A) thin.signature (thin.spec 𝓤 H (𝓖 .A) (𝓜 .mem) (𝓡 .run)))
+    (tables 𝓤 H 𝓜 𝓡 code.env .C) (tables 𝓤 H 𝓜 𝓡 code.env .Λ) #standby·arriving·arrive code.function (code.unfolded 𝓤 H 𝓜 𝓡)
+    (arrive-meets 𝓤 H (𝓖 .A) (givenOf 𝓤 H 𝓜 𝓖) (𝓜 .mem) (𝓡 .run) (tablesOf 𝓤 H 𝓜 (tables 𝓤 H 𝓜 𝓡 code.env))
+    (cited 𝓤 H (Core 𝓤 H (𝓖 .A) (𝓜 .mem) (𝓡 .run)) 𝓜 𝓡 code.env #standby·arriving·take-record core-def.routine code.calls-standby·arriving·take-record (core-thm.met 𝓤 H 𝓜 𝓖 𝓡)))

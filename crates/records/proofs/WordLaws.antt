@@ -1,0 +1,59 @@
+-- Laws of words one after another: what stands at a place, and what the front of a record says of its words.
+use Prim.Native.Nat.{ℕ, _+_, _-_, _≤_, _<_}
+use mathlib.Core.Path.{_≡_, refl, sym, ap, _∙_}
+use mathlib.Core.List.{List, [], _∷_}
+use native.Mathlib.Omega.{arith}
+use native.Mathlib.Numerals.{add-one}
+use lib.ListN.{length, getD, drop, drop-of-length-le, length-drop}
+use lib.Seq.{drop-cons, drop-drop}
+use Rattle.records.specs.declared.words.Word.the-variants.{Is, End}
+use Rattle.records.specs.declared.words.WordRead.{WordRead}
+use Rattle.records.specs.declared.words.Front.{Front}
+use Rattle.records.specs.Words.{firstWord, behindFirst, readAt, frontAt}
+
+-- the words from a place on: the one there, and those behind it
+pub from-place : (ws : List ℕ) (at : ℕ) → at < length ws → drop at ws ≡ getD ws at 0 ∷ drop (at + 1) ws
+from-place ws at h = rw (add-one at) (drop-cons ws at 0 h)
+
+module _ (ws : List ℕ) (at : ℕ) where
+  pub read-word : at < length ws → _≡_ {A = WordRead} (record { word = Is (getD ws at 0); at = at + 1 }) (readAt ws at)
+  unfolding firstWord behindFirst
+  read-word h = rw (from-place ws at h)
+
+  pub read-end : length ws ≤ at → _≡_ {A = WordRead} (record { word = End; at = at }) (readAt ws at)
+  unfolding firstWord behindFirst
+  read-end h = rw (drop-of-length-le ws h)
+
+-- ---- a front
+
+pub no-word : (l : List ℕ) → firstWord l ≡ End → l ≡ []
+unfolding firstWord
+no-word [] e = refl
+no-word (a ∷ l) e = let z : _≡_ {A = ℕ} 0 1 = cc e in absurd (omega arith)
+
+first-is : (l : List ℕ) {w : ℕ} → firstWord l ≡ Is w → l ≡ w ∷ drop 1 l
+unfolding firstWord
+first-is [] e = let z : _≡_ {A = ℕ} 0 1 = cc e in absurd (omega arith)
+first-is (a ∷ l) {w} e = let same : a ≡ w = cc e in ap (λ (b : ℕ). b ∷ l) same
+
+-- a front with a head w: the words from `from` on begin with it, and the rest of the front is what stands behind it
+pub record Headed (ws : List ℕ) (from w : ℕ) (f : Front) : Type 0 where
+  pub here : from < length ws
+  pub words : drop from ws ≡ w ∷ drop (from + 1) ws
+  pub second : f .second ≡ firstWord (drop (from + 1) ws)
+  pub behind : f .at ≡ behindFirst (drop (from + 1) ws) (from + 1)
+  pub left : f .left ≡ length ws - f .at
+
+pub headed : (ws : List ℕ) (from : ℕ) {w : ℕ} {f : Front} → f ≡ frontAt ws from → f .head ≡ Is w → Headed ws from w f
+unfolding behindFirst
+headed ws from {w} F e =
+    let first : firstWord (drop from ws) ≡ Is w = sym (ap (λ (g : Front). g .head) F) ∙ e in
+    let is : drop from ws ≡ w ∷ drop 1 (drop from ws) = first-is (drop from ws) first in
+    let step : behindFirst (drop from ws) from ≡ from + 1 = ap (λ (l : List ℕ). behindFirst l from) is in
+    record {
+      here = omega (arith, length-drop from ws, ap length is);
+      words = is ∙ ap (λ (l : List ℕ). w ∷ l) (drop-drop 1 from ws);
+      second = ap (λ (g : Front). g .second) F ∙ ap (λ (k : ℕ). firstWord (drop k ws)) step;
+      behind = ap (λ (g : Front). g .at) F ∙ ap (λ (k : ℕ). behindFirst (drop k ws) k) step;
+      left = ap (λ (g : Front). g .left) F ∙ ap (λ (g : Front). length ws - g .at) (sym F);
+    }

@@ -1,0 +1,185 @@
+/* What ./demo shows of main and standby: a main's changes over a bad link, what the standby makes of them, and the takeover. What the
+ * link does is fixed below; all else comes from calls of permissions.h. */
+#include "permissions.h"
+
+#include <stdio.h>
+#include <string.h>
+
+enum { TABLE = PERMISSIONS_TABLE_BYTES, RECORD = PERMISSIONS_RECORD_WORDS, MOST_CHANGES = 9 };
+
+static unsigned char main_table[TABLE], standby_table[TABLE];
+static unsigned char careless_table[TABLE]; /* of a standby that does whatever comes */
+static uint64_t number, last, highest;
+
+/* The records, by number. */
+static struct {
+    uint32_t words[RECORD];
+    size_t size;
+} sent[MOST_CHANGES + 1];
+
+static char did[80]; /* what the main did, for the first column */
+
+/* Ends the program where a call that must succeed does not. */
+static int stop(const char *what, int32_t result)
+{
+    if (result >= 0)
+        return 0;
+    printf("%s: refused %d, %s\n", what, (int)-result, permissions_refusal_name(result));
+    return 1;
+}
+
+/* ---- the main makes a change */
+
+enum act { ASK, GRANT, DENY, YES, NO, REVOKE, SEND_AGAIN };
+
+static uint32_t records[RECORD];
+static size_t records_size;
+
+static int32_t let_ask(void)
+{
+    snprintf(did, sizeof did, "the operator may be asked");
+    return permissions_linked_switches(main_table, TABLE, &number, PERMISSIONS_SWITCH_PROMPT, records, RECORD, &records_size);
+}
+
+static int32_t insert(uint32_t kind, const char *path)
+{
+    snprintf(did, sizeof did, "%s %s", permissions_kind_name(kind), path);
+    return permissions_linked_insert(main_table, TABLE, &number, kind, path, strlen(path), NULL, 0, records, RECORD,
+                                     &records_size);
+}
+
+/* A script wants to read the path: the main looks whether it must ask, puts the question, and checks with the answer. */
+static int32_t check(const char *path, uint32_t operator_says)
+{
+    char text[PERMISSIONS_TEXT_BYTES];
+    uint32_t asked, answer = PERMISSIONS_ANSWER_DENY;
+    size_t size;
+
+    if (permissions_check_asks(main_table, TABLE, path, strlen(path), NULL, 0, text, sizeof text, &size) == 1) {
+        answer = operator_says;
+        snprintf(did, sizeof did, "%.*s? the operator says %s", (int)size, text, answer ? "yes" : "no");
+    }
+    return permissions_linked_check(main_table, TABLE, &number, path, strlen(path), NULL, 0, answer, text, sizeof text, records,
+                                    RECORD, &asked, &size, &records_size);
+}
+
+static int32_t revoke(const char *path)
+{
+    snprintf(did, sizeof did, "revoked %s", path);
+    return permissions_linked_revoke(main_table, TABLE, &number, path, strlen(path), NULL, 0, records, RECORD, &records_size);
+}
+
+/* The standby has said which change it wants: nothing is changed, the records go out again. */
+static int32_t send_again(void)
+{
+    snprintf(did, sizeof did, "the standby wants %lu: sent again", (unsigned long)last + 1);
+    records_size = 0;
+    return 0;
+}
+
+static int32_t act(enum act what, const char *path)
+{
+    switch (what) {
+    case ASK: return let_ask();
+    case GRANT: return insert(PERMISSIONS_KIND_GRANTED, path);
+    case DENY: return insert(PERMISSIONS_KIND_FLAG_DENIED, path);
+    case YES: return check(path, PERMISSIONS_ANSWER_ALLOW);
+    case NO: return check(path, PERMISSIONS_ANSWER_DENY);
+    case REVOKE: return revoke(path);
+    default: return send_again();
+    }
+}
+
+/* ---- a record arrives */
+
+/* A standby that does not look at numbers: to it each record is the next. */
+static int32_t do_carelessly(unsigned long k)
+{
+    uint64_t before = k - 1, heard = k - 1;
+
+    return permissions_arrive(careless_table, TABLE, &before, &heard, sent[k].words, sent[k].size);
+}
+
+static int arrive(unsigned long k)
+{
+    uint64_t owed;
+    int32_t result = permissions_arrive(standby_table, TABLE, &last, &highest, sent[k].words, sent[k].size);
+
+    if (stop("arrival", result) || stop("arrival", do_carelessly(k)) || stop("owed", permissions_owed(last, highest, &owed)))
+        return 1;
+    printf("%-7lu%-15s%-6lu%s\n", k, permissions_arrival_name(result), (unsigned long)last, owed == 0 ? "nothing" : "some");
+    return 0;
+}
+
+/* One step of the main, and the records that the link then brings, in its own sequence. */
+static int step(enum act what, const char *path, const char *brought)
+{
+    uint64_t from = what == SEND_AGAIN ? last + 1 : number + 1;
+    char numbers[48];
+
+    if (stop(path, act(what, path)))
+        return 1;
+    if (records_size > 0) {
+        memcpy(sent[number].words, records, records_size * sizeof records[0]);
+        sent[number].size = records_size;
+    }
+    if (from == number)
+        snprintf(numbers, sizeof numbers, "%lu", (unsigned long)from);
+    else
+        snprintf(numbers, sizeof numbers, "%lu to %lu", (unsigned long)from, (unsigned long)number);
+    printf("  %-50s%-9s", did, numbers);
+    if (*brought == '\0')
+        puts("lost");
+    for (; *brought != '\0'; brought++) {
+        if (arrive((unsigned long)(*brought - '0')))
+            return 1;
+        if (brought[1] != '\0')
+            printf("%61s", "");
+    }
+    return 0;
+}
+
+static int over_a_bad_link(void)
+{
+    puts("The link: the main sends each change with its number; the link loses, repeats and reorders them.\n");
+    printf("  %-50s%-9s%-7s%-15s%-6s%s\n", "the main", "sends", "comes", "standby says", "has", "is owed");
+    return step(ASK, "", "1") ||
+           step(GRANT, "/plant/hours", "") ||
+           step(DENY, "/plant", "3") ||
+           step(GRANT, "/home", "44") ||
+           step(SEND_AGAIN, "", "324") ||
+           step(SEND_AGAIN, "", "34") ||
+           step(YES, "/srv/log", "5") ||
+           step(NO, "/srv/keys", "626") ||
+           step(REVOKE, "/home", "7") ||
+           puts("\n  Applied: it was the next, and is done. Early: one before it is missing. Repeat: it was done before.") < 0;
+}
+
+/* ---- the takeover */
+
+static const char *answer(const unsigned char *table, const char *path)
+{
+    return permissions_state_name(permissions_query(table, TABLE, PERMISSIONS_MODE_DENIED, path, strlen(path), NULL, 0));
+}
+
+static int the_takeover(void)
+{
+    static const char *const paths[] = {"/plant/hours/unit1", "/plant/setpoints", "/srv/log/today", "/srv/keys", "/home/notes"};
+    int32_t main_size = permissions_used(main_table, TABLE), standby_size = permissions_used(standby_table, TABLE);
+    size_t i;
+
+    puts("\nThe takeover: the main is gone, and the standby answers in its place.\n");
+    printf("  %-24s%-14s%-14s%s\n", "may it be read?", "the main", "the standby", "a standby that does whatever comes");
+    for (i = 0; i < sizeof paths / sizeof paths[0]; i++)
+        printf("  %-24s%-14s%-14s%s\n", paths[i], answer(main_table, paths[i]), answer(standby_table, paths[i]),
+               answer(careless_table, paths[i]));
+    printf("\n  The main's table has %d bytes and the standby's %d: they are %s.\n", (int)main_size, (int)standby_size,
+           main_size == standby_size && memcmp(main_table, standby_table, (size_t)main_size) == 0 ? "the same" : "NOT the same");
+    return 0;
+}
+
+int main(void)
+{
+    return stop("fresh", permissions_fresh(main_table, TABLE)) || stop("fresh", permissions_fresh(standby_table, TABLE)) ||
+           stop("fresh", permissions_fresh(careless_table, TABLE)) || over_a_bad_link() || the_takeover();
+}

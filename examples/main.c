@@ -1,0 +1,105 @@
+/* The smallest complete main: makes the changes that standard input names, and sends their records to standard output; first of all
+ * the last one that it has kept, since a power cut may have come before it was sent. With a number it sends all that it has kept from
+ * that one on, and makes no change.
+ *
+ * usage: main FILE <CHANGES >LINK
+ *        main FILE NUMBER >LINK
+ *
+ * A line of CHANGES is `switches N`, `grant PATH`, `deny PATH`, `ignore PATH`, `revoke PATH`, or `check PATH ANSWER`, with the answer 0, 1
+ * or 2 that the operator gives if asked. FILE is the unit's file of records. */
+#include "unit.h"
+
+#include <stdlib.h>
+#include <string.h>
+
+static uint64_t number; /* of the last change */
+static uint32_t records[PERMISSIONS_RECORD_WORDS];
+static size_t records_size;
+
+/* Keeps what the call has recorded, and then sends it: never the other way round. These calls make one record or none. */
+static void keep_and_send(void)
+{
+    if (records_size == 0)
+        return;
+    keep(records, records_size);
+    write_frame(stdout, records, records_size);
+    if (fflush(stdout) != 0)
+        fprintf(stderr, "change %lu is kept and not sent\n", (unsigned long)number);
+}
+
+static int32_t insert(uint32_t kind, const char *path)
+{
+    return permissions_linked_insert(table, sizeof table, &number, kind, path, strlen(path), NULL, 0, records,
+                                     PERMISSIONS_RECORD_WORDS, &records_size);
+}
+
+/* Looks whether the check asks, and if so checks with the operator's answer. */
+static int32_t check(const char *path, uint32_t operator_says)
+{
+    char text[PERMISSIONS_TEXT_BYTES];
+    uint32_t asked, answer = PERMISSIONS_ANSWER_DENY;
+    size_t text_size;
+
+    if (permissions_check_asks(table, sizeof table, path, strlen(path), NULL, 0, text, sizeof text, &text_size) == 1)
+        answer = operator_says;
+    return permissions_linked_check(table, sizeof table, &number, path, strlen(path), NULL, 0, answer, text, sizeof text, records,
+                                    PERMISSIONS_RECORD_WORDS, &asked, &text_size, &records_size);
+}
+
+static int32_t change(const char *what, const char *argument, uint32_t answer)
+{
+    records_size = 0;
+    if (strcmp(what, "switches") == 0)
+        return permissions_linked_switches(table, sizeof table, &number, (uint32_t)strtoul(argument, NULL, 10), records,
+                                           PERMISSIONS_RECORD_WORDS, &records_size);
+    if (strcmp(what, "grant") == 0)
+        return insert(PERMISSIONS_KIND_GRANTED, argument);
+    if (strcmp(what, "deny") == 0)
+        return insert(PERMISSIONS_KIND_FLAG_DENIED, argument);
+    if (strcmp(what, "ignore") == 0)
+        return insert(PERMISSIONS_KIND_FLAG_IGNORED, argument);
+    if (strcmp(what, "check") == 0)
+        return check(argument, answer);
+    if (strcmp(what, "revoke") == 0)
+        return permissions_linked_revoke(table, sizeof table, &number, argument, strlen(argument), NULL, 0, records,
+                                         PERMISSIONS_RECORD_WORDS, &records_size);
+    return PERMISSIONS_REFUSAL_UNKNOWN;
+}
+
+/* Sends what was kept from this number on; and the last record, which stays in the record space. */
+static uint64_t from = PERMISSIONS_MAX_NUMBER + 1;
+
+static void send_again(const uint32_t *record, size_t size)
+{
+    memcpy(records, record, size * sizeof record[0]);
+    records_size = size;
+    if (last >= from)
+        write_frame(stdout, record, size);
+}
+
+int main(int arguments, char **argument)
+{
+    char line[1200], what[16], path[1100];
+    unsigned answer;
+
+    if (arguments != 2 && arguments != 3)
+        stop("usage: main FILE [NUMBER]");
+    if (arguments == 3)
+        from = strtoul(argument[2], NULL, 10);
+    start(argument[1], send_again);
+    number = last;
+    if (arguments == 2 && records_size > 0)
+        write_frame(stdout, records, records_size);
+    while (arguments == 2 && fgets(line, sizeof line, stdin) != NULL) {
+        int32_t result;
+        answer = PERMISSIONS_ANSWER_DENY;
+        if (sscanf(line, "%15s %1099s %u", what, path, &answer) < 2)
+            continue;
+        result = change(what, path, answer);
+        keep_and_send();
+        if (result < 0)
+            fprintf(stderr, "%s %s: refused %d, %s\n", what, path, (int)-result, permissions_refusal_name(result));
+    }
+    list_table(stderr, number);
+    return fflush(stdout) != 0;
+}

@@ -1,0 +1,28 @@
+/* What the parts of the link test share: a fault ends the program, and things are counted. */
+#ifndef LINK_H
+#define LINK_H
+
+#include <stddef.h>
+#include <stdint.h>
+
+enum { GREATEST_REFUSAL = 11 };
+
+/* Says what is wrong, with the run and the seed, and ends the program with status 1. */
+#if defined(__GNUC__)
+__attribute__((format(printf, 1, 2), noreturn))
+#endif
+void fault(const char *format, ...);
+
+struct counts {
+    unsigned long runs, calls, changes, refused[GREATEST_REFUSAL + 1];
+    unsigned long children_kept, children_several; /* refused child calls that keep acts; child calls with several acts */
+    unsigned long used_up;                         /* runs that came to the last number */
+    unsigned long arrivals[3], takeovers, queries, caught_up, went_on;
+    unsigned long full_entries, full_bytes; /* takeovers with 256 entries, and with no room for 1,024 bytes more */
+    unsigned long damaged[3], damaged_refused[GREATEST_REFUSAL + 1];
+    uint64_t longest_gap;
+};
+
+extern struct counts counts;
+
+#endif

@@ -1,4 +1,4 @@
-/* Random calls of every function in permissions.h with hostile input, each held against a model of document 01.
+/* Random calls of every function in permissions.h with hostile input, each held against a model of the scope.
  *
  * After every call the result and every byte of every lent area must be what the model says, so a refusal that changed a
  * byte, a byte behind a table or a text, and a number that was not written all show. Every area ends at a page that can
@@ -247,7 +247,7 @@ static void count_result(int32_t result)
 
 static void explain_difference(const struct area *area, long position, int32_t result)
 {
-    const char *why = "is not what document 01 says";
+    const char *why = "is not what the scope says";
 
     if (position < 0)
         why = "lies before its start and has changed";

@@ -1,4 +1,4 @@
-/* Document 01 in plain C, from the bottom up: paths, a table in memory, records, acts, the walk, the calls, the child, the
+/* The scope in plain C, from the bottom up: paths, a table in memory, records, acts, the walk, the calls, the child, the
  * standby. */
 #include "model.h"
 

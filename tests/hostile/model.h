@@ -1,4 +1,4 @@
-/* Document 01 in plain C: what each call answers and which table it leaves. It is written from the document and the
+/* The scope in plain C: what each call answers and which table it leaves. It is written from the document and the
  * README's layout of a table, shares nothing with the library, and takes its time. */
 #ifndef MODEL_H
 #define MODEL_H

@@ -1,5 +1,5 @@
 /* Damaged records, of which the claim says nothing: a refusal must change nothing, and what is accepted must do what its words say.
- * What they say is read here once more from document 01, and done by a plain call. */
+ * What they say is read here once more from the scope, and done by a plain call. */
 #include "damage.h"
 #include "areas.h"
 #include "chance.h"
@@ -110,7 +110,7 @@ static void damage(const struct profile *profile)
     }
 }
 
-/* ---- what the words say, by document 01 */
+/* ---- what the words say, by the scope */
 
 static unsigned char path[PERMISSIONS_MAX_PATH_BYTES];
 static size_t path_size;

@@ -1,5 +1,5 @@
 // The calls of the call script on the extracted part, with what the Rust does
-// not have: document 01's limits and refusals. A call runs on a copy of the
+// not have: the scope's limits and refusals. A call runs on a copy of the
 // table, which takes the table's place only if the call is not refused.
 
 use std::cell::Cell;
@@ -25,7 +25,7 @@ pub struct Given<'a> {
     pub directory: &'a [u8],
 }
 
-/// Document 01's refusals that a call script can reach, by their numbers.
+/// The scope's refusals that a call script can reach, by their numbers.
 #[derive(Clone, Copy, Debug)]
 pub enum Refusal {
     Argument = 3,
@@ -357,7 +357,7 @@ struct ChildRun {
 }
 
 /// A child call's refusal, if any, and how often it asked. The parent keeps
-/// the acts that document 01 says; the child is fresh after any refusal but 3.
+/// the acts that the scope says; the child is fresh after any refusal but 3.
 pub fn child(parent: &mut Table, child: &mut Table, call: &ChildCall) -> (Option<Refusal>, usize) {
     if !call.is_known() {
         return (Some(Refusal::Argument), 0);

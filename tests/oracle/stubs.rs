@@ -1,5 +1,5 @@
 // Stand-ins for what the extracted part takes from crates and modules that are
-// not here. Names follow the Rust; what they do is document 01's: no broker,
+// not here. Names follow the Rust; what they do is the scope's: no broker,
 // no audit, no log, an operator whose answer is handed in with the call.
 
 use std::path::Path;
@@ -46,7 +46,7 @@ pub mod deno_path_util {
     use std::path::Path;
     use std::path::PathBuf;
 
-    // Document 01, "Paths, at the bottom". The path comes joined to its working
+    // Scope, "Paths, at the bottom". The path comes joined to its working
     // directory, so it begins with `/`.
     pub fn normalize_path(path: Cow<'_, Path>) -> Cow<'_, Path> {
         let mut components: Vec<&[u8]> = Vec::new();
@@ -188,7 +188,7 @@ impl<A: AllowDescriptor> Search<UnaryPermissionDesc<A>> for Vec<UnaryPermissionD
     }
 }
 
-// Document 01, "Placing an entry".
+// Scope, "Placing an entry".
 #[cfg(not(std_search))]
 fn search<T: Ord>(list: &[T], item: &T) -> Result<usize, usize> {
     use std::cmp::Ordering;

@@ -1,4 +1,4 @@
--- The calls check, request and revoke, and what a call would ask: for each its checking order, its answer, and the lent bytes after it. Document 01, "A call comes in".
+-- The calls check, request and revoke, and what a call would ask: for each its checking order, its answer, and the lent bytes after it. Scope, "A call comes in".
 use Prim.Native.Nat.{ℕ}
 use mathlib.Core.Path.{_≡_}
 use mathlib.Core.List.{List, [], _∷_}

@@ -1,4 +1,4 @@
-// The calls check and request: the checking order, the decision, its act and its text. Document 01, "A call comes in".
+// The calls check and request: the checking order, the decision, its act and its text. Scope, "A call comes in".
 use crate::Asked;
 use crate::Call;
 use crate::PromptResponse;

@@ -1,4 +1,4 @@
-// What check and request decide, from a table in lent memory and the operator's answer. Document 01, "A call comes in".
+// What check and request decide, from a table in lent memory and the operator's answer. Scope, "A call comes in".
 // Nothing changes here: the act that is decided on is still to be carried out.
 use crate::Call;
 use crate::Decided;

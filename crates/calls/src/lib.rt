@@ -13,7 +13,7 @@ pub mod texts;
 // The bytes that a text can take: `read access to `, a name of 1,024 bytes and two quotes.
 pub const TEXT_BYTES: usize = 1041;
 
-// The operator's answer, with the Rust's names: document 01's Deny, Allow and AllowAll, in its order.
+// The operator's answer, with the Rust's names: the scope's Deny, Allow and AllowAll, in its order.
 pub enum PromptResponse {
     Deny,
     Allow,

@@ -1,4 +1,4 @@
-// The call revoke: the checking order, the act, and the query after it. Document 01, "A call comes in".
+// The call revoke: the checking order, the act, and the query after it. Scope, "A call comes in".
 use paths::Descriptor;
 use paths::MAX_PATH;
 use paths::Resolution;

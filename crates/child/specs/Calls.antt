@@ -1,4 +1,4 @@
--- The child call: its checking order, its answer, and both memories after it. Document 01, "A call comes in".
+-- The child call: its checking order, its answer, and both memories after it. Scope, "A call comes in".
 use Prim.Native.Nat.{ℕ}
 use mathlib.Core.Path.{_≡_}
 use mathlib.Core.List.{List, []}

@@ -1,5 +1,5 @@
--- The Rust's `create_child_permissions`, step by step, in document 01's order of refusals: a fold of what each item adds. A plain call numbers no
--- act, and a linked one is the same fold. Document 01, "A call comes in".
+-- The Rust's `create_child_permissions`, step by step, in the scope's order of refusals: a fold of what each item adds. A plain call numbers no
+-- act, and a linked one is the same fold. Scope, "A call comes in".
 use Prim.Native.Nat.{ℕ, _+_}
 use mathlib.Core.List.{List, [], _∷_, _++_}
 use mathlib.Core.Option.{Option, none, some}

@@ -1,4 +1,4 @@
-// The child call: the checking order, the child's first table, the items, and what the child takes over. Document 01, "A call comes in".
+// The child call: the checking order, the child's first table, the items, and what the child takes over. Scope, "A call comes in".
 use crate::ArgRead;
 use crate::ChildMade;
 use crate::arguments::are_in_order;

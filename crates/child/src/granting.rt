@@ -1,4 +1,4 @@
-// The items of a child call, one by one: the parent's check of each, and what the child is granted. Document 01, "A call comes in".
+// The items of a child call, one by one: the parent's check of each, and what the child is granted. Scope, "A call comes in".
 use crate::ChildMade;
 use crate::ChildUnaryPermissionArg;
 use crate::arguments::response_at;

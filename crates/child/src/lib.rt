@@ -9,7 +9,7 @@ pub mod inheriting;
 // The most items of a child list.
 pub const MAX_ITEMS: usize = 64;
 
-// What a child is to have, with the Rust's names: document 01's child codes Inherit, Granted, NotGranted and list, in its order.
+// What a child is to have, with the Rust's names: the scope's child codes Inherit, Granted, NotGranted and list, in its order.
 pub enum ChildUnaryPermissionArg {
     Inherit,
     Granted,

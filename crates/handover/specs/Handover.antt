@@ -1,4 +1,4 @@
--- Demand 3, whole. Document 01, "Handover, at the top".
+-- Demand 3, whole. Scope, "Handover, at the top".
 --
 -- A main goes from a fresh table and the number 0 through any list of its calls. A standby goes from a fresh table and the numbers 0 and 0 through any
 -- list of arrivals, each of one of the main's records, lost, repeated and reordered as it may be. `Handover` says what then holds, at whatever point the

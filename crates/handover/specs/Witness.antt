@@ -1,5 +1,5 @@
 -- The claim is not empty: each call has a next main, a main makes every kind of call, refused ones among them, and a standby gets its records with a loss,
--- a repeat and a reordering. Document 01, "Handover, at the top".
+-- a repeat and a reordering. Scope, "Handover, at the top".
 use Prim.Native.Nat.{ℕ, _+_, _*_, _-_, _≤_}
 use mathlib.Core.Path.{_≡_}
 use mathlib.Core.List.{List, [], _∷_, _++_}

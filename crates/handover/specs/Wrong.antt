@@ -1,4 +1,4 @@
--- Wrong arrivals, each of which the claim rules out by itself. Document 01, "How firm a contract is", and "Handover, at the top".
+-- Wrong arrivals, each of which the claim rules out by itself. Scope, "How firm a contract is", and "Handover, at the top".
 -- An h raised by a refused record cannot show in the claim, since no arrival of the claim is refused: the arrival's own promise rules it out.
 use Prim.Native.Nat.{ℕ, _+_}
 use mathlib.Core.List.{List, []}

@@ -1,11 +1,11 @@
 -- Laws of holding: a record that arrives, the record that bytes begin with, and the loop over records.
 use Prim.Native.Nat.{ℕ, zero, suc, _+_, _*_, _-_, _/_, _≤_, _<_}
 use mathlib.Core.Path.{_≡_, refl, sym, ap, subst, _∙_}
-use mathlib.Core.List.{List, [], _∷_}
+use mathlib.Core.List.{List}
 use mathlib.Core.Option.{Option, none, some}
 use mathlib.Core.Bool.{Bool, true, false, _||_, cond, or-true, false≢true}
 use native.Mathlib.Omega.{arith}
-use lib.ListN.{length, take, drop, length-append, length-take, length-drop}
+use lib.ListN.{length, take, length-append, length-take, length-drop}
 use lib.Seq.{take-append-seam, take-take, take-at, length-take-le}
 use lib.Dec.{leb}
 use borrow.Author.Tests.{le-leb, lt-leb, leb-false}
@@ -19,14 +19,12 @@ use Rattle.records.proofs.WrittenLaws.{written-first}
 use Rattle.refusals.specs.declared.Refusal.{Refusal}
 use Rattle.refusals.specs.Refusals.{Result, refused, ok, andThen}
 use Rattle.table.specs.declared.Numbering.the-variants.{Plain}
-use Rattle.table.specs.Acts.{Act}
 use Rattle.table.specs.Memory.{tableOf, doActs}
 use Rattle.table.specs.Calls.{carried}
 use Rattle.records.specs.Records.{Change, recordSpace, Read, changeWords, readFirst}
 use Rattle.standby.specs.declared.Numbers.{Numbers}
 use Rattle.standby.specs.declared.Arrival.{Arrival}
-use Rattle.standby.specs.declared.Arrival.the-variants.{Applied, Repeat, Early, Refused}
-use Rattle.standby.specs.Arriving.{Taken, applied, passedBy, taken, arrival, answerIn, actsIn, numbersIn, Arrives}
+use Rattle.standby.specs.Arriving.{Taken, applied, passedBy, arrival, answerIn, actsIn, numbersIn, Arrives}
 use Rattle.standby.proofs.ArrivingLaws.{arrival-by, taken-by}
 use Rattle.holdlist.specs.declared.Held.{Held}
 use Rattle.holdlist.specs.Holding.{Standing, wordsOf, stop, afterArrival, afterRecord, behind, afterNext, heldFrom, beginning, counted, heldOn, isRefused, standing, Holds}

@@ -1,6 +1,6 @@
 -- Whatever the input, memory that holds a table holds one afterwards.
 use Prim.Native.Nat.{ℕ, zero, suc, _≤_}
-use mathlib.Core.Path.{_≡_, refl, sym, ap, _∙_}
+use mathlib.Core.Path.{_≡_, refl, ap, _∙_}
 use mathlib.Core.List.{List}
 use mathlib.Core.Option.{Option, none, some}
 use mathlib.Core.Bool.{Bool, true, false}
@@ -14,7 +14,7 @@ use Rattle.table.specs.Calls.{MakesFresh}
 use Rattle.table.proofs.Puts.{holds-put}
 use Rattle.table.proofs.CallLaws.{made-fresh}
 use Rattle.records.specs.Records.{Change, Read, changeWords, readFirst}
-use Rattle.standby.specs.Arriving.{Taken, arrival, actsIn}
+use Rattle.standby.specs.Arriving.{Taken, actsIn}
 use Rattle.standby.proofs.KeepLaws.{arrival-acted}
 use Rattle.holdlist.specs.declared.Held.{Held}
 use Rattle.holdlist.specs.declared.Input.{Input}

@@ -6,3 +6,4 @@ pub mod DecimalLaws
 pub mod LineLaws
 pub mod InputLaws
 pub mod KeepLaws
+mod Examples

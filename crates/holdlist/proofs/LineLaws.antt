@@ -1,6 +1,5 @@
 -- Laws of the lines: pieces written one behind the other, how long each line is, and the loop over the entries.
-use Prim.Native.Nat.{ℕ, _+_, _*_, _-_, _≤_, _<_}
-use Prim.Native.String.{String}
+use Prim.Native.Nat.{ℕ, _+_, _*_, _≤_}
 use mathlib.Core.Path.{_≡_, refl, sym, ap, _∙_}
 use mathlib.Core.List.{List, [], _∷_, _++_, append-nil, append-assoc}
 use mathlib.Core.Bool.{Bool, true, false, cond}
@@ -14,7 +13,7 @@ use Rattle.paths.specs.Copying.{begun, Appends}
 use Rattle.table.specs.declared.Kind.{Kind}
 use Rattle.table.specs.declared.Cursor.{Cursor}
 use Rattle.table.specs.Entries.{Entry}
-use Rattle.table.specs.Tables.{Table, pathBytes, maxEntries, maxPathBytes}
+use Rattle.table.specs.Tables.{Table, pathBytes}
 use Rattle.table.specs.Memory.{tableOf, holds}
 use Rattle.table.specs.Reading.{entriesFrom, isAtEntry, entryIn, firstEntry, nextEntry, InList, Reads}
 use Rattle.table.proofs.Overwrites.{appends-none, appends-as, appends-more, from-start}

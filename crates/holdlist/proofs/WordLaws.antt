@@ -6,7 +6,7 @@ use mathlib.Core.Option.{Option, none, some}
 use native.Mathlib.Nat.{zero-add, add-assoc}
 use native.Mathlib.Omega.{arith}
 use native.Mathlib.Numerals.{unary-clauses}
-use lib.ListN.{length, getD, take, drop, set, take-append-drop, length-append, length-take, length-drop}
+use lib.ListN.{length, getD, take, drop, set, take-append-drop, length-take, length-drop}
 use lib.Seq.{paste, take-append-seam, take-take, take-at, getD-drop}
 use Rattle.paths.specs.Copying.{Appends}
 use Rattle.paths.proofs.CopyLaws.{paste-more}

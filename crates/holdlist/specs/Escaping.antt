@@ -1,4 +1,4 @@
--- A path as holdlist prints it: bytes outside 0x21 to 0x7E, and `%`, as `%` and two capital hexadecimal digits. Document 01, "Handover, at the top".
+-- A path as holdlist prints it: bytes outside 0x21 to 0x7E, and `%`, as `%` and two capital hexadecimal digits. Scope, "Handover, at the top".
 use Prim.Native.Nat.{ℕ, _+_, _/_, _%_}
 use mathlib.Core.List.{List, [], _∷_, _++_}
 use mathlib.Core.Bool.{Bool, _&&_, not, cond}

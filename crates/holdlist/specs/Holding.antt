@@ -1,4 +1,4 @@
--- What a standby holds after input of records, and where reading stopped. Document 01, "Handover, at the top" (`holdlist`).
+-- What a standby holds after input of records, and where reading stopped. Scope, "Handover, at the top" (`holdlist`).
 use Prim.Native.Nat.{ℕ, zero, suc, _+_, _*_}
 use mathlib.Core.Path.{_≡_}
 use mathlib.Core.List.{List, [], _∷_}

@@ -1,11 +1,11 @@
--- What holdlist prints. Document 01, "Handover, at the top": the header gives the entry count, n, owed (0 or `some`), and switches and marks in decimal;
+-- What holdlist prints. Scope, "Handover, at the top": the header gives the entry count, n, owed (0 or `some`), and switches and marks in decimal;
 -- then one line for each entry, kind and path; and `stopped at word W` where reading ended early.
 use Prim.Native.Nat.{ℕ, zero, suc, _+_, _/_, _%_}
 use Prim.Native.Char.{code}
 use Prim.Native.String.{String}
 use mathlib.Core.Path.{_≡_}
 use mathlib.Core.List.{List, [], _∷_, _++_}
-use mathlib.Core.Bool.{Bool, true, false, cond}
+use mathlib.Core.Bool.{cond}
 use lib.ListN.{length}
 use lib.Dec.{ltb, eqb}
 use Rattle.paths.specs.Copying.{begun}
@@ -47,6 +47,7 @@ header t s =
     labelled "entries " (length (t .entries)) ++ labelled " changes " (s .n) ++ owedText s ++ labelled " switches " (t .switches)
     ++ labelled " marks " (t .marks) ++ newline
 
+-- the letters G, D, P and I
 abbrev pub kindLetter : Kind → ℕ
 kindLetter G = 71
 kindLetter D = 68

@@ -1,4 +1,4 @@
-// `holdlist` reads records from standard input into a fresh standby, and prints what it holds. Document 01, "Handover, at the top". The
+// `holdlist` reads records from standard input into a fresh standby, and prints what it holds. Scope, "Handover, at the top". The
 // definitions are in specs/.
 use libc::STDERR_FILENO;
 use libc::STDIN_FILENO;

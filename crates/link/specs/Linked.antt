@@ -1,5 +1,5 @@
 -- The linked calls: for each its checking order, its answer, and every lent area after it. Each is the plain call's chain of steps with the record space
--- tested behind the text space (2) and its acts numbered on from the main's number (9). Document 01, "A call comes in".
+-- tested behind the text space (2) and its acts numbered on from the main's number (9). Scope, "A call comes in".
 use Prim.Native.Nat.{ℕ, zero, suc, _*_}
 use mathlib.Core.Path.{_≡_}
 use mathlib.Core.List.{List, [], _∷_}

@@ -1,4 +1,4 @@
--- What a linked call sends: its acts are done, numbered on from the main's number, and their records stand at the start of the record space. Document 01,
+-- What a linked call sends: its acts are done, numbered on from the main's number, and their records stand at the start of the record space. Scope,
 -- "Handover, at the top".
 use Prim.Native.Nat.{ℕ, _+_}
 use mathlib.Core.Path.{_≡_}

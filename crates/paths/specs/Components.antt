@@ -1,4 +1,4 @@
--- A path is a list of bytes, and slashes part it into components. Document 01, "Paths, at the bottom".
+-- A path is a list of bytes, and slashes part it into components. Scope, "Paths, at the bottom".
 -- Any byte but the slash may stand in a component.
 use Prim.Native.Nat.{ℕ, _<_}
 use mathlib.Core.List.{List, [], _∷_, _++_}

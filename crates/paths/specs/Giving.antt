@@ -1,4 +1,4 @@
--- What a call is given: no path, or a path with its working directory; and what it asks about once that is resolved. Document 01, "A call comes in".
+-- What a call is given: no path, or a path with its working directory; and what it asks about once that is resolved. Scope, "A call comes in".
 use Prim.Native.Nat.{ℕ}
 use mathlib.Core.Path.{_≡_}
 use mathlib.Core.List.{List}

@@ -1,4 +1,4 @@
--- How two paths relate: prefix by whole components, and path order. Document 01, "Paths, at the bottom"; std's documentation of `Path` has both.
+-- How two paths relate: prefix by whole components, and path order. Scope, "Paths, at the bottom"; std's documentation of `Path` has both.
 use Prim.Native.Nat.{ℕ, zero, suc}
 use mathlib.Core.List.{List, [], _∷_}
 use mathlib.Core.Bool.{Bool, true, false, _&&_, cond}

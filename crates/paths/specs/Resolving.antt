@@ -1,4 +1,4 @@
--- Resolving: document 01's stand-in for `normalize_path`, and the form that it gives. Document 01, "Paths, at the bottom".
+-- Resolving: the scope's stand-in for `normalize_path`, and the form that it gives. Scope, "Paths, at the bottom".
 use Prim.Native.Nat.{ℕ}
 use mathlib.Core.Path.{_≡_}
 use mathlib.Core.List.{List, [], _∷_, _++_, dropLast}
@@ -49,7 +49,7 @@ resolve p cwd = normalize (join cwd p)
 unfoldable pub isResolved : List ℕ → Bool
 isResolved p = same (normalize p) p
 
--- ---- the limit, and causes 4 to 7. Document 01, "A call comes in"
+-- ---- the limit, and causes 4 to 7. Scope, "A call comes in"
 
 -- the longest path, as given, resolved, or of a working directory
 abbrev pub maxPath : ℕ

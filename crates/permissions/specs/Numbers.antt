@@ -1,4 +1,4 @@
--- The numbers that the C program gets. Document 01, "A call comes in": a refusal returns its number; states carry the Rust's numbers.
+-- The numbers that the C program gets. Scope, "A call comes in": a refusal returns its number; states carry the Rust's numbers.
 use Prim.Native.Nat.{ℕ}
 use mathlib.Core.Bool.{Bool, true, false}
 use lib.IntN.{ℤ, pos, negℤ}

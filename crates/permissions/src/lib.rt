@@ -1,5 +1,5 @@
 // The calls for the controller's C program: numbers and byte slices, over a table in lent memory. permissions.h documents them for C.
-// A negative result −n is refusal n of document 01. Where a call answers more than one number, the others go to lent numbers, which are always
+// A negative result −n is refusal n of the scope. Where a call answers more than one number, the others go to lent numbers, which are always
 // written.
 use calls::Call;
 use calls::Question;

@@ -238,7 +238,7 @@ pub few-words : (c : Change) → isAct (c .act) ≡ true → length (changeWords
 unfolding changeWords
 few-words c ok = omega (arith, part-few (c .act) ok)
 
--- ---- document 01's example: 11000001 20000002 302F6300 12000002 20000002 302F7A00
+-- ---- the scope's example: 11000001 20000002 302F6300 12000002 20000002 302F7A00
 
 example : allWords (numbered 0 (insertOf G (47 ∷ 99 ∷ []) ∷ insertOf D (47 ∷ 122 ∷ []) ∷ []))
     ≡ 285212673 ∷ 536870914 ∷ 808411904 ∷ 301989890 ∷ 536870914 ∷ 808417792 ∷ []

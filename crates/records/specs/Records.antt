@@ -1,4 +1,4 @@
--- Records: an act on the main's table with its number, as 32-bit words, and back. Document 01, "Handover, at the top".
+-- Records: an act on the main's table with its number, as 32-bit words, and back. Scope, "Handover, at the top".
 use Prim.Native.Nat.{ℕ, zero, suc, _+_, _*_, _/_, _%_, _≤_}
 use mathlib.Core.Path.{_≡_}
 use mathlib.Core.List.{List, [], _∷_, _++_}

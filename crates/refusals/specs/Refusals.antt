@@ -1,4 +1,4 @@
--- The causes of a refusal with their numbers, and the checking order. Document 01, "A call comes in".
+-- The causes of a refusal with their numbers, and the checking order. Scope, "A call comes in".
 use Prim.Native.Nat.{ℕ}
 use mathlib.Core.List.{List, [], _∷_}
 use mathlib.Core.Option.{Option, none, some}

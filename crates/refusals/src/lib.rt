@@ -1,4 +1,4 @@
-// Why a call is refused: every cause of document 01, in its checking order. The definitions are in specs/.
+// Why a call is refused: every cause of the scope, in its checking order. The definitions are in specs/.
 ghost use mathlib.Core.Path.{_≡_};
 ghost use Rattle.refusals.specs.Refusals.{refusalNumber};
 
@@ -23,7 +23,7 @@ pub enum Refusal {
     MalformedRecord,
 }
 
-// Document 01's number of a cause.
+// The scope's number of a cause.
 pub fn refusal_number(refusal: Refusal) -> u8
     ensures { λ r. ⌜ r ≡ refusalNumber refusal ⌝ }
 {

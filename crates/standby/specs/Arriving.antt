@@ -1,4 +1,4 @@
--- An arrival at the standby: its checking order, its answer, and every lent byte and number after it. Document 01, "Handover, at the top", and "A call
+-- An arrival at the standby: its checking order, its answer, and every lent byte and number after it. Scope, "Handover, at the top", and "A call
 -- comes in": for a record 11 comes after 1, and 8 last, only at number n + 1.
 use Prim.Native.Nat.{ℕ, _+_}
 use mathlib.Core.Path.{_≡_}

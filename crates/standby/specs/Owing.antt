@@ -1,4 +1,4 @@
--- What is owed: 0 exactly if h = n, else at least 1 and at most h − n. Which number it is then is the program's choice. Document 01, "Handover, at the
+-- What is owed: 0 exactly if h = n, else at least 1 and at most h − n. Which number it is then is the program's choice. Scope, "Handover, at the
 -- top", and cause 1 where n is above h.
 use Prim.Native.Nat.{ℕ, _-_, _≤_, _<_}
 use mathlib.Core.Path.{_≡_}

@@ -1,4 +1,4 @@
--- Laws of the search: it is document 01's loop, and it ends inside the list.
+-- Laws of the search: it is the scope's loop, and it ends inside the list.
 use Prim.Native.Nat.{ℕ, zero, suc, _+_, _-_, _/_, _≤_, _<_}
 use mathlib.Core.Path.{_≡_, refl, sym, _∙_}
 use mathlib.Core.List.{List}

@@ -1,4 +1,4 @@
--- The calls on a table: for each its checking order, its answer, and the memory after it. Document 01, "A call comes in".
+-- The calls on a table: for each its checking order, its answer, and the memory after it. Scope, "A call comes in".
 use Prim.Native.Nat.{ℕ}
 use mathlib.Core.Path.{_≡_}
 use mathlib.Core.List.{List, [], _∷_}

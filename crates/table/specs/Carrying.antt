@@ -1,4 +1,4 @@
--- Carrying an act out: the numbers that recorded acts take, causes 8 and 9, and the acts that a call makes. Document 01, "A call comes in".
+-- Carrying an act out: the numbers that recorded acts take, causes 8 and 9, and the acts that a call makes. Scope, "A call comes in".
 use Prim.Native.Nat.{ℕ, _+_}
 use mathlib.Core.Path.{_≡_}
 use mathlib.Core.List.{List, [], _∷_}

@@ -1,4 +1,4 @@
--- The table in lent memory: the layout, when memory holds a table, and how one is written. Document 01, "A call comes in".
+-- The table in lent memory: the layout, when memory holds a table, and how one is written. Scope, "A call comes in".
 -- Bytes 0 and 1 are the count, high byte first; byte 2 the switches, byte 3 the marks; then the entries, packed in list order:
 -- a kind byte, two bytes of path length, high first, and the path. What lies behind the last entry means nothing.
 use Prim.Native.Nat.{ℕ, zero, suc, _+_, _*_, _/_, _%_}

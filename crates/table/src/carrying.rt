@@ -1,4 +1,4 @@
-// Carrying out the act that a call decided on, the only change of a table. Document 01, "A call comes in".
+// Carrying out the act that a call decided on, the only change of a table. Scope, "A call comes in".
 use crate::Action;
 use crate::MAX_NUMBER;
 use crate::Numbering;

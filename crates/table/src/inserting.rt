@@ -1,4 +1,4 @@
-// Inserting: an entry at its place, and the mark of its kind. Document 01, "Placing an entry".
+// Inserting: an entry at its place, and the mark of its kind. Scope, "Placing an entry".
 use crate::ENTRY_HEAD;
 use crate::Kind;
 use crate::MARKS_AT;

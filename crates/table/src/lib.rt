@@ -57,7 +57,7 @@ pub const HAS_PROMPT_DENIED: u8 = 2;
 
 pub const HAS_FLAG_IGNORED: u8 = 4;
 
-// The kinds of an entry, by document 01's letters. The Rust's names are Granted, FlagDenied, PromptDenied and FlagIgnored.
+// The kinds of an entry, by the scope's letters. The Rust's names are Granted, FlagDenied, PromptDenied and FlagIgnored.
 pub enum Kind {
     G,
     D,

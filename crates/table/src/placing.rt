@@ -1,4 +1,4 @@
-// Placing an entry: where it goes in the list, and whether there is room for it. Document 01, "Placing an entry".
+// Placing an entry: where it goes in the list, and whether there is room for it. Scope, "Placing an entry".
 use crate::ENTRY_HEAD;
 use crate::HEAD;
 use crate::Kind;

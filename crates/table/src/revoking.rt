@@ -1,4 +1,4 @@
-// Revoking grants and setting the switches: acts on memory that holds a table. Document 01, "A call comes in" (revoke).
+// Revoking grants and setting the switches: acts on memory that holds a table. Scope, "A call comes in" (revoke).
 use crate::ENTRY_HEAD;
 use crate::GRANTED;
 use crate::HEAD;

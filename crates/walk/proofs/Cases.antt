@@ -1,4 +1,4 @@
--- The ten starred cases of document 01 hold of the definitions: each computes to what its row expects.
+-- The ten starred cases of the scope hold of the definitions: each computes to what its row expects.
 use mathlib.Core.Path.{_≡_, refl}
 use mathlib.Core.Bool.{Bool, true, false, cond}
 use lib.IntN.{ℤ}

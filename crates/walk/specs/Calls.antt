@@ -1,4 +1,4 @@
--- The call query: its checking order and its answer. Document 01, "A call comes in".
+-- The call query: its checking order and its answer. Scope, "A call comes in".
 use Prim.Native.Nat.{ℕ}
 use mathlib.Core.List.{List}
 use Rattle.refusals.specs.Refusals.{Result, refused, ok, andThen}

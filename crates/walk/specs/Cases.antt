@@ -1,4 +1,4 @@
--- The ten cases of document 01 with a star, as rows. `proofs/Cases.antt` proves that each row says what the definitions give.
+-- The ten cases of the scope with a star, as rows. `proofs/Cases.antt` proves that each row says what the definitions give.
 use Prim.Native.Nat.{ℕ}
 use Prim.Native.Char.{code}
 use Prim.Native.String.{String}
@@ -32,7 +32,7 @@ unfoldable pub bytes : String → List ℕ
 bytes String.[] = []
 bytes (String._∷_ c s) = code c ∷ bytes s
 
--- an entry, written as document 01 writes it, `G/z/b`
+-- an entry, written as the scope writes it, `G/z/b`
 unfoldable pub entry : Kind → String → Entry
 entry kind p = record { kind = kind; path = bytes p }
 

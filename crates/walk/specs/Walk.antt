@@ -1,4 +1,4 @@
--- What a query answers. Document 01, "The walk", and "A call comes in" for the numbers of states and modes.
+-- What a query answers. Scope, "The walk", and "A call comes in" for the numbers of states and modes.
 use Prim.Native.Nat.{ℕ, zero, suc}
 use mathlib.Core.List.{List, [], _∷_}
 use mathlib.Core.Option.{Option, none, some}

@@ -14,7 +14,7 @@ pub enum PermissionState {
     Ignored,
 }
 
-// The mode of a query, with the Rust's names: document 01's modes denied, partial and granted, in its order.
+// The mode of a query, with the Rust's names: the scope's modes denied, partial and granted, in its order.
 pub enum AllowPartial {
     TreatAsDenied,
     TreatAsPartialGranted,

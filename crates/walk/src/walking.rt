@@ -1,4 +1,4 @@
-// What a query answers, from a table in lent memory. Document 01, "The walk". The names are the Rust's where a function is.
+// What a query answers, from a table in lent memory. Scope, "The walk". The names are the Rust's where a function is.
 use crate::AllowPartial;
 use crate::ExactMatch;
 use crate::ModeRead;

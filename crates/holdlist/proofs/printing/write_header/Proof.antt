@@ -1,4 +1,5 @@
 -- `write_header` meets its contract.
+use Prim.Native.Nat.{_≤_}
 use native.Mathlib.Omega.{arith}
 use denote.Ref.{now}
 use Rattle.table.specs.Memory.{tableOf}
@@ -7,6 +8,26 @@ use Rattle.holdlist.proofs.LineLaws.{owed-long, header-written}
 use borrow.Author.Needs.{needs}
 use Rattle.holdlist.proofs.printing.write_header.Statement.{statement}
 use Rattle.holdlist.proofs.printing.write_header.Tie as tie
+
+-- where each piece ends
+first : (c : tie.After-append-labelled) → c .append-labelled .result ≤ 28
+first c = omega (arith, c .append-labelled .ensures .end, decimal-long 20 (c .before .count .result))
+
+second : (c : tie.After-append-labelled2) → c .append-labelled2 .result ≤ 57
+second c =
+    let before = c .before .before .before .before .before in
+    omega (arith, c .append-labelled2 .ensures .end, first before, decimal-long 20 (before .before .before .before .before .before .before .args .numbers .n))
+
+third : (c : tie.After-append-owed) → c .append-owed .result ≤ 67
+third c =
+    let before = c .before .before .before .before in
+    omega (arith, c .append-owed .ensures .end, second before, owed-long (before .before .before .before .before .before .before .before .before .before .before .before .args .numbers))
+
+fourth : (c : tie.After-append-labelled3) → c .append-labelled3 .result ≤ 97
+fourth c = omega (arith, c .append-labelled3 .ensures .end, third (c .before .before .before .before .before .before), decimal-long 20 (c .before .switches .result))
+
+fifth : (c : tie.After-append-labelled4) → c .append-labelled4 .result ≤ 124
+fifth c = omega (arith, c .append-labelled4 .ensures .end, fourth (c .before .before .before .before .before .before), decimal-long 20 (c .before .marks .result))
 
 slice-aggregate-append-labelled : tie.Need-slice-aggregate-append-labelled
 slice-aggregate-append-labelled c = search needs
@@ -21,17 +42,10 @@ slice-aggregate-append-labelled-2 : tie.Need-slice-aggregate-append-labelled-2
 slice-aggregate-append-labelled-2 c = search needs
 
 append-labelled-requires-2 : tie.Need-append-labelled-requires-2
-append-labelled-requires-2 c κs =
-    let first = c .before .before .before .before in
-    let start = first .before .before .before .before .before .before in
-    omega (arith, start .pre .1, first .append-labelled .ensures .end, decimal-long 20 (first .before .count .result))
+append-labelled-requires-2 c κs = omega (arith, c .before .before .before .before .before .before .before .before .before .before .pre .1, first (c .before .before .before .before))
 
 append-owed-requires : tie.Need-append-owed-requires
-append-owed-requires c κs =
-    let second = c .before .before .before in
-    let first = second .before .before .before .before .before in
-    let start = first .before .before .before .before .before .before in
-    omega (arith, start .pre .1, first .append-labelled .ensures .end, decimal-long 20 (first .before .count .result), second .append-labelled2 .ensures .end, decimal-long 20 (start .args .numbers .n))
+append-owed-requires c κs = omega (arith, c .before .before .before .before .before .before .before .before .before .before .before .before .before .before .pre .1, second (c .before .before .before))
 
 slice-aggregate-append-labelled-3 : tie.Need-slice-aggregate-append-labelled-3
 slice-aggregate-append-labelled-3 c = search needs
@@ -43,21 +57,7 @@ cast-append-labelled : tie.Need-cast-append-labelled
 cast-append-labelled c = search needs
 
 append-labelled-requires-3 : tie.Need-append-labelled-requires-3
-append-labelled-requires-3 c κs =
-    let third = c .before .before .before .before .before in
-    let second = third .before .before .before .before in
-    let first = second .before .before .before .before .before in
-    let start = first .before .before .before .before .before .before in
-    omega (
-      arith,
-      start .pre .1,
-      first .append-labelled .ensures .end,
-      decimal-long 20 (first .before .count .result),
-      second .append-labelled2 .ensures .end,
-      decimal-long 20 (start .args .numbers .n),
-      third .append-owed .ensures .end,
-      owed-long (start .args .numbers),
-    )
+append-labelled-requires-3 c κs = omega (arith, c .before .before .before .before .before .before .before .before .before .before .before .before .before .before .before .before .before .before .before .before .pre .1, third (c .before .before .before .before .before))
 
 slice-aggregate-append-labelled-4 : tie.Need-slice-aggregate-append-labelled-4
 slice-aggregate-append-labelled-4 c = search needs
@@ -69,67 +69,29 @@ cast-append-labelled-2 : tie.Need-cast-append-labelled-2
 cast-append-labelled-2 c = search needs
 
 append-labelled-requires-4 : tie.Need-append-labelled-requires-4
-append-labelled-requires-4 c κs =
-    let fourth = c .before .before .before .before .before in
-    let third = fourth .before .before .before .before .before .before in
-    let second = third .before .before .before .before in
-    let first = second .before .before .before .before .before in
-    let start = first .before .before .before .before .before .before in
-    omega (
-      arith,
-      start .pre .1,
-      first .append-labelled .ensures .end,
-      decimal-long 20 (first .before .count .result),
-      second .append-labelled2 .ensures .end,
-      decimal-long 20 (start .args .numbers .n),
-      third .append-owed .ensures .end,
-      owed-long (start .args .numbers),
-      fourth .append-labelled3 .ensures .end,
-      decimal-long 20 (fourth .before .switches .result),
-    )
+append-labelled-requires-4 c κs = omega (arith, c .before .before .before .before .before .before .before .before .before .before .before .before .before .before .before .before .before .before .before .before .before .before .before .before .before .before .pre .1, fourth (c .before .before .before .before .before))
 
 slice-aggregate-append : tie.Need-slice-aggregate-append
 slice-aggregate-append c = search needs
 
 append-requires : tie.Need-append-requires
-append-requires c κs =
-    let fifth = c .before .before .before .before in
-    let fourth = fifth .before .before .before .before .before .before in
-    let third = fourth .before .before .before .before .before .before in
-    let second = third .before .before .before .before in
-    let first = second .before .before .before .before .before in
-    let start = first .before .before .before .before .before .before in
-    omega (
-      arith,
-      start .pre .1,
-      first .append-labelled .ensures .end,
-      decimal-long 20 (first .before .count .result),
-      second .append-labelled2 .ensures .end,
-      decimal-long 20 (start .args .numbers .n),
-      third .append-owed .ensures .end,
-      owed-long (start .args .numbers),
-      fourth .append-labelled3 .ensures .end,
-      decimal-long 20 (fourth .before .switches .result),
-      fifth .append-labelled4 .ensures .end,
-      decimal-long 20 (fifth .before .marks .result),
-    )
+append-requires c κs = omega (arith, c .before .before .before .before .before .before .before .before .before .before .before .before .before .before .before .before .before .before .before .before .before .before .before .before .before .before .before .before .before .before .before .pre .1, fifth (c .before .before .before .before))
 
 same-length : tie.Need-same-length
 same-length c = search needs
 
 returns : tie.Need-returns
 returns c =
-    let last = c .before .before in
-    let fifth = last .before .before .before .before .before in
-    let fourth = fifth .before .before .before .before .before .before in
-    let third = fourth .before .before .before .before .before .before in
-    let second = third .before .before .before .before in
-    let first = second .before .before .before .before .before in
-    let start = first .before .before .before .before .before .before in
+    let marks = c .before .before .before .before .before .before .before in
+    let switches = marks .before .before .before .before .before .before in
+    let owed = switches .before .before .before .before .before .before in
+    let changes = owed .before .before .before .before in
+    let entries = changes .before .before .before .before .before in
+    let start = entries .before .before .before .before .before .before in
     header-written (tableOf (now (start .args .mem))) (start .args .numbers) _ _ _ (start .pre .1)
-    (first .before .count .ensures .0) (fourth .before .switches .ensures .0) (fifth .before .marks .ensures .0)
-    (first .append-labelled .ensures) (second .append-labelled2 .ensures) (third .append-owed .ensures)
-    (fourth .append-labelled3 .ensures) (fifth .append-labelled4 .ensures) (last .append .ensures)
+    (entries .before .count .ensures .0) (switches .before .switches .ensures .0) (marks .before .marks .ensures .0)
+    (entries .append-labelled .ensures) (changes .append-labelled2 .ensures) (owed .append-owed .ensures)
+    (switches .append-labelled3 .ensures) (marks .append-labelled4 .ensures) (c .before .before .append .ensures)
 
 pub write-header-spec : {M : Type 1} → statement M
 write-header-spec =

@@ -1,0 +1,58 @@
+-- What is printed of some input, by the definitions: the scope's example, words left over behind a record, bytes that are escaped, and a large number.
+use Prim.Native.Nat.{ℕ}
+use mathlib.Core.Path.{_≡_, refl}
+use mathlib.Core.List.{List, [], _∷_, _++_}
+use lib.ListN.{replicate}
+use Rattle.refusals.specs.Refusals.{firstCause, andThen, unless}
+use Rattle.paths.specs.Components.{same, grown, parted, pieces, withoutEmpty, components, slashed, spell}
+use Rattle.paths.specs.Resolving.{isAbsolute, entered, enterAll, normalize, isResolved}
+use Rattle.paths.specs.Relations.{leads, isPrefix, numberOrder, orElse, inTurn, pathOrder}
+use Rattle.paths.specs.Giving.{isPath}
+use Rattle.table.specs.Entries.{kindOf, isKind, samePath, strictlyExtends, compareAlike, grantedOrder, compare}
+use Rattle.table.specs.Placing.{isAfter, searchFrom, search, placeBy, place, placedAt}
+use Rattle.table.specs.Tables.{has, setBit, clearBit, marked, pathBytes, isEntry, every, any, present, marksOf, isTable}
+use Rattle.table.specs.Acts.{keptUnless, without, revokedBy, insertedBy, inserted, adds, wouldAdd, hasRoom, overflows, actOverflows, applyAct}
+use Rattle.table.specs.Carrying.{usedUp, past, carryCause}
+use Rattle.table.specs.Calls.{carried}
+use Rattle.table.specs.Memory.{tableBytes, kindIn, entriesAt, tableOf, areWithin, holds, encodeEntry, encodeAll, encode, put, doAct, doActs}
+use Rattle.records.specs.Records.{actNumber, pathWords, pathPart, actPart, changeWords, isLength, isPathWord, withBytes, bytesFrom, ifResolved, readPath, withPath, readAct, withNumber, readFirst, endedBy, ended, readChange}
+use Rattle.standby.specs.Arriving.{standbyIn, wellFormed, higher, applied, passedBy, taken, arrival}
+use Rattle.holdlist.specs.Escaping.{isPlain, escapedByte, escaped}
+use Rattle.holdlist.specs.Holding.{wordsOf, stop, afterArrival, afterRecord, afterNext, heldFrom, unnumbered, held}
+use Rattle.holdlist.specs.Lines.{text, newline, decimalBy, decimal, owedText, header, entryLine, entryLines, stoppedLine, listing}
+
+-- what is printed of some input
+printed : List ℕ → List ℕ
+printed input = listing (held (replicate tableBytes 0) unnumbered input)
+
+-- `11000001 20000002 302F6300 12000002 20000002 302F7A00`
+two-changes : List ℕ
+two-changes =
+    0x11 ∷ 0x00 ∷ 0x00 ∷ 0x01 ∷ 0x20 ∷ 0x00 ∷ 0x00 ∷ 0x02 ∷ 0x30 ∷ 0x2F ∷ 0x63 ∷ 0x00
+    ∷ 0x12 ∷ 0x00 ∷ 0x00 ∷ 0x02 ∷ 0x20 ∷ 0x00 ∷ 0x00 ∷ 0x02 ∷ 0x30 ∷ 0x2F ∷ 0x7A ∷ 0x00 ∷ []
+
+-- `17000001 40000001`
+word-left : List ℕ
+word-left = 0x17 ∷ 0x00 ∷ 0x00 ∷ 0x01 ∷ 0x40 ∷ 0x00 ∷ 0x00 ∷ 0x01 ∷ []
+
+examples : (printed two-changes ≡ text "entries 2 changes 2 owed 0 switches 0 marks 1" ++ newline ++ text "D /z" ++ newline ++ text "G /c" ++ newline)
+    × (printed word-left ≡ text "entries 0 changes 1 owed 0 switches 0 marks 0" ++ newline ++ text "stopped at word 1" ++ newline)
+    × (escaped (0x2F ∷ 0x20 ∷ 0x25 ∷ 0x00 ∷ 0x7F ∷ 0xFF ∷ 0x21 ∷ 0x7E ∷ []) ≡ text "/%20%25%00%7F%FF!~")
+    × (decimal 18446744073709551615 ≡ text "18446744073709551615")
+unfolding printed two-changes word-left
+    firstCause andThen unless
+    same grown parted pieces withoutEmpty components slashed spell
+    isAbsolute entered enterAll normalize isResolved
+    leads isPrefix numberOrder orElse inTurn pathOrder isPath
+    kindOf isKind samePath strictlyExtends compareAlike grantedOrder compare
+    isAfter searchFrom search placeBy place placedAt
+    has setBit clearBit marked pathBytes isEntry every any present marksOf isTable
+    keptUnless without revokedBy insertedBy inserted adds wouldAdd hasRoom overflows actOverflows applyAct
+    usedUp past carryCause carried
+    kindIn entriesAt tableOf areWithin holds encodeEntry encodeAll encode put doAct doActs
+    actNumber pathWords pathPart actPart changeWords isLength isPathWord withBytes bytesFrom ifResolved readPath withPath readAct withNumber readFirst endedBy ended readChange
+    standbyIn wellFormed higher applied passedBy taken arrival
+    isPlain escapedByte escaped
+    wordsOf stop afterArrival afterRecord afterNext heldFrom
+    decimalBy owedText header entryLine entryLines stoppedLine listing
+examples = (refl, refl, refl, refl)

@@ -82,7 +82,7 @@ module _ {first m buffer : List ℕ} {r : Held} {left turns : ℕ} (P : Part fir
   words-inside : 4 * r .words ≤ length (P .input)
   words-inside = rw (P .so-far) at (held-inside keptBytes (length (P .input)) (beginning first unnumbered) (P .input) (omega arith))
 
-  -- no byte of it is lost where more come or none
+  -- a buffer with the same first bytes serves as well
   pub part-kept : {after : List ℕ} → take left after ≡ take left buffer → length after ≡ length buffer → Part first m after r left turns
   part-kept k l = record {
     input = P .input;
@@ -122,7 +122,7 @@ module _ {first m buffer : List ℕ} {r : Held} {left turns : ℕ} (P : Part fir
           let l = length-take-le (left + more) after came-inside in
           (w .0, omega (arith, w .1))
 
-      -- so are those that are left of them
+      -- and so are those that are left of them
       rest-next : {buffer′ : List ℕ} → buffer′ ≡ overwrite after 0 (take left′ (drop taken after))
           → take left′ buffer′ ≡ behind (standing m′ q) (P .input ++ drop left (take (left + more) after))
       rest-next o =

@@ -56,6 +56,10 @@ pub number-behind : (label : List ℕ) (n : ℕ) (out : List ℕ) {m : List ℕ}
     → Appends label m at m′ from → Appends (take k out) m′ from m″ r → Appends (label ++ decimal n) m at m″ r
 number-behind label n out k h few F d a b = then (omega (arith, a .end)) a (appends-as (d ∙ decimal-digits k 20 n F few) b)
 
+pub labelled-end : (label : List ℕ) (n : ℕ) {m : List ℕ} {at : ℕ} {m′ : List ℕ} {r : ℕ} → Appends (label ++ decimal n) m at m′ r
+    → r ≤ at + length label + 20
+labelled-end label n A = omega (arith, A .end, length-append label (decimal n), decimal-long 20 n)
+
 -- ---- what is owed
 
 module _ {n h : ℕ} where
@@ -86,13 +90,16 @@ module _ (s : Numbers) {owed : Owed} (O : Owes (s .n) (s .h) owed) {m : List ℕ
   pub owed-refused : {cause : Refusal} → owed ≡ Refused cause → Appends (text " owed some") m at m′ r → Appends (owedText s) m at m′ r
   owed-refused e A = owed-other (owes-above O e) A
 
-pub owed-long : (s : Numbers) → length (owedText s) ≤ 10
+owed-long : (s : Numbers) → length (owedText s) ≤ 10
 unfolding owedText
 owed-long s = by (eqb (s .h) (s .n))
   where
     by : (b : Bool) → length (cond b (text " owed 0") (text " owed some")) ≤ 10
     by true = omega arith
     by false = omega arith
+
+pub owed-end : (s : Numbers) {m : List ℕ} {at : ℕ} {m′ : List ℕ} {r : ℕ} → Appends (owedText s) m at m′ r → r ≤ at + 10
+owed-end s A = omega (arith, A .end, owed-long s)
 
 -- ---- the header
 

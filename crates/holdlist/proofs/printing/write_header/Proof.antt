@@ -3,31 +3,27 @@ use Prim.Native.Nat.{_≤_}
 use native.Mathlib.Omega.{arith}
 use denote.Ref.{now}
 use Rattle.table.specs.Memory.{tableOf}
-use Rattle.holdlist.proofs.DecimalLaws.{decimal-long}
-use Rattle.holdlist.proofs.LineLaws.{owed-long, header-written}
+use Rattle.holdlist.specs.Lines.{text}
+use Rattle.holdlist.proofs.LineLaws.{labelled-end, owed-end, header-written}
 use borrow.Author.Needs.{needs}
 use Rattle.holdlist.proofs.printing.write_header.Statement.{statement}
 use Rattle.holdlist.proofs.printing.write_header.Tie as tie
 
 -- where each piece ends
 first : (c : tie.After-append-labelled) → c .append-labelled .result ≤ 28
-first c = omega (arith, c .append-labelled .ensures .end, decimal-long 20 (c .before .count .result))
+first c = omega (arith, labelled-end (text "entries ") _ (c .append-labelled .ensures))
 
 second : (c : tie.After-append-labelled2) → c .append-labelled2 .result ≤ 57
-second c =
-    let before = c .before .before .before .before .before in
-    omega (arith, c .append-labelled2 .ensures .end, first before, decimal-long 20 (before .before .before .before .before .before .before .args .numbers .n))
+second c = omega (arith, labelled-end (text " changes ") _ (c .append-labelled2 .ensures), first (c .before .before .before .before .before))
 
 third : (c : tie.After-append-owed) → c .append-owed .result ≤ 67
-third c =
-    let before = c .before .before .before .before in
-    omega (arith, c .append-owed .ensures .end, second before, owed-long (before .before .before .before .before .before .before .before .before .before .before .before .args .numbers))
+third c = omega (arith, owed-end _ (c .append-owed .ensures), second (c .before .before .before .before))
 
 fourth : (c : tie.After-append-labelled3) → c .append-labelled3 .result ≤ 97
-fourth c = omega (arith, c .append-labelled3 .ensures .end, third (c .before .before .before .before .before .before), decimal-long 20 (c .before .switches .result))
+fourth c = omega (arith, labelled-end (text " switches ") _ (c .append-labelled3 .ensures), third (c .before .before .before .before .before .before))
 
 fifth : (c : tie.After-append-labelled4) → c .append-labelled4 .result ≤ 124
-fifth c = omega (arith, c .append-labelled4 .ensures .end, fourth (c .before .before .before .before .before .before), decimal-long 20 (c .before .marks .result))
+fifth c = omega (arith, labelled-end (text " marks ") _ (c .append-labelled4 .ensures), fourth (c .before .before .before .before .before .before))
 
 slice-aggregate-append-labelled : tie.Need-slice-aggregate-append-labelled
 slice-aggregate-append-labelled c = search needs

@@ -1,3 +1,4 @@
+-- `take_words` meets its contract. The loop's invariant: the first `k` words are taken.
 use borrow.Author.Needs.{needs}
 use native.Mathlib.Omega.{arith}
 use Prim.Native.Nat.{_-_, _≤_}
@@ -9,10 +10,6 @@ use Rattle.holdlist.specs.Holding.{wordsOf}
 use Rattle.holdlist.proofs.WordLaws.{words-behind, word-behind, word-more, takes-words}
 use Rattle.holdlist.proofs.reading.take_words.Statement.{statement}
 use Rattle.holdlist.proofs.reading.take_words.Tie as tie
-use Rattle.holdlist.proofs.reading.take_words.Reads as reads
-use Rattle.holdlist.proofs.reading.take_words.Lts as lts
-use Rattle.holdlist.proofs.reading.least.Reads as least-reads
-use Rattle.holdlist.proofs.reading.word_from.Reads as word-from-reads
 
 abbrev Inv-loop : tie.InvT-loop
 Inv-loop bytes from words₀ count k₀ words k = (k ≤ count) × (words ≡ paste words₀ 0 (wordsOf (drop from bytes)) k) × (length words ≡ length words₀)
@@ -20,49 +17,38 @@ Inv-loop bytes from words₀ count k₀ words k = (k ≤ count) × (words ≡ pa
 abbrev μ-loop : tie.MeasureT-loop
 μ-loop bytes from words₀ count k₀ words k = count - k
 
--- src/reading.rt:42:37
 sub-least : tie.Need-sub-least Inv-loop μ-loop
 sub-least c = search needs
 
--- src/reading.rt:42:9
 least-requires : tie.Need-least-requires Inv-loop μ-loop
 least-requires c κs = search needs
 
--- src/reading.rt:44:5
 loop-holds : tie.Need-loop-holds Inv-loop μ-loop
 loop-holds c =
     let a = c .before .before .before .args in
     (omega arith, paste-zero (now (a .words)) 0 (wordsOf (drop (a .from) (now (a .bytes)))), refl)
 
--- src/reading.rt:45:44
 mul-word-from : tie.Need-mul-word-from Inv-loop μ-loop
 mul-word-from c = search needs
 
--- src/reading.rt:45:37
 add-word-from : tie.Need-add-word-from Inv-loop μ-loop
 add-word-from c = search needs
 
--- src/reading.rt:45:20
 word-from-requires : tie.Need-word-from-requires Inv-loop μ-loop
 word-from-requires c κs = search needs
 
--- src/reading.rt:45:9
 mul-words : tie.Need-mul-words Inv-loop μ-loop
 mul-words c = search needs
 
--- src/reading.rt:45:9
 slice-write-words : tie.Need-slice-write-words Inv-loop μ-loop
 slice-write-words c = search needs
 
--- src/reading.rt:46:9
 add-k : tie.Need-add-k Inv-loop μ-loop
 add-k c = search needs
 
--- src/reading.rt:44:5
 loop-less : tie.Need-loop-less Inv-loop μ-loop
 loop-less c = search needs
 
--- src/reading.rt:44:5
 loop-again : tie.Need-loop-again Inv-loop μ-loop
 loop-again c =
     let l = c .before .before in
@@ -71,11 +57,9 @@ loop-again c =
     let word = c .word-from .ensures ∙ word-behind (now (a .bytes)) (a .from) (l .loop .k) (omega arith) in
     (omega arith, rw (l .loop .inv .1) (word-more _ _ (l .loop .k) _ (omega arith) (omega arith) word), simp length-set (l .loop .inv .2))
 
--- src/reading.rt:38:1
 same-length : tie.Need-same-length Inv-loop μ-loop
 same-length c = search needs
 
--- src/reading.rt:38:1
 returns : tie.Need-returns Inv-loop μ-loop
 returns c =
     let l = c .before in

@@ -27,7 +27,7 @@ use Rattle.standby.specs.declared.Arrival.{Arrival}
 use Rattle.standby.specs.Arriving.{Taken, applied, passedBy, arrival, answerIn, actsIn, numbersIn, Arrives}
 use Rattle.standby.proofs.ArrivingLaws.{arrival-by, taken-by}
 use Rattle.holdlist.specs.declared.Held.{Held}
-use Rattle.holdlist.specs.Holding.{Standing, wordsOf, stop, afterArrival, afterRecord, behind, afterNext, heldFrom, beginning, counted, heldOn, isRefused, standing, Holds}
+use Rattle.holdlist.specs.Holding.{Standing, wordsOf, stop, afterArrival, afterRecord, behind, afterNext, heldFrom, beginning, counted, heldOn, isRefused, heldArrived, standing, Holds}
 use Rattle.holdlist.proofs.WordLaws.{words-behind, first-decides}
 
 -- ---- a record that arrives
@@ -60,18 +60,17 @@ takes-arrival (refused cause) k s e = absurd (false≢true (sym e))
 takes-arrival (ok t) k s e = refl
 
 module _ {m : List ℕ} (words : List ℕ) (held : Held) {m′ : List ℕ} {n′ : Numbers} {a : Arrival} (A : Arrives m words (held .numbers) m′ n′ a) where
-  pub holds-refused : {r : Held} → isRefused a ≡ true → r ≡ record { numbers = held .numbers; words = held .words; stopped = true }
-      → Holds (afterArrival (arrival m words (held .numbers)) (length words) (standing m held)) m′ r
-  unfolding IfRefused afterArrival stop actsIn doActs
-  holds-refused e f =
-      let call = if-arrival m words (held .numbers) (sym (ap isRefused (A .answer)) ∙ e) .1 in
-      rw (call, f) (record { memory = A .memory ∙ rw call; numbers = refl; words = refl; stopped = refl })
-
-  pub holds-taken : {r : Held} → isRefused a ≡ false → r ≡ record { numbers = n′; words = held .words + length words; stopped = false }
-      → Holds (afterArrival (arrival m words (held .numbers)) (length words) (standing m held)) m′ r
-  holds-taken e f =
-      let call = takes-arrival (arrival m words (held .numbers)) (length words) (standing m held) (sym (ap isRefused (A .answer)) ∙ e) in
-      rw (call, f) (record { memory = A .memory; numbers = A .numbers; words = refl; stopped = refl })
+  pub holds-arrived : {r : Held} → r ≡ heldArrived held (length words) n′ a → Holds (afterArrival (arrival m words (held .numbers)) (length words) (standing m held)) m′ r
+  unfolding heldArrived IfRefused afterArrival stop actsIn doActs
+  holds-arrived {r} f = go (isRefused a) refl
+    where
+      go : (b : Bool) → isRefused a ≡ b → Holds (afterArrival (arrival m words (held .numbers)) (length words) (standing m held)) m′ r
+      go true e =
+          let call = if-arrival m words (held .numbers) (sym (ap isRefused (A .answer)) ∙ e) .1 in
+          rw (call, f, e) (record { memory = A .memory ∙ rw call; numbers = refl; words = refl; stopped = refl })
+      go false e =
+          let call = takes-arrival (arrival m words (held .numbers)) (length words) (standing m held) (sym (ap isRefused (A .answer)) ∙ e) in
+          rw (call, f, e) (record { memory = A .memory; numbers = A .numbers; words = refl; stopped = refl })
 
 -- ---- the record that bytes begin with
 

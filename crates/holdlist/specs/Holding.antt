@@ -100,6 +100,11 @@ isRefused Repeat = false
 isRefused Early = false
 isRefused (Refused cause) = true
 
+-- what was held, once k words arrived with this answer and left these numbers
+unfoldable pub heldArrived : Held → ℕ → Numbers → Arrival → Held
+heldArrived held k n a =
+    cond (isRefused a) (record { numbers = held .numbers; words = held .words; stopped = true }) (record { numbers = n; words = held .words + k; stopped = false })
+
 -- memory m and what was held
 abbrev pub standing : List ℕ → Held → Standing
 standing m r = record { memory = m; numbers = r .numbers; words = r .words; stopped = r .stopped }

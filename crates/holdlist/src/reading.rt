@@ -6,7 +6,7 @@ use records::Record;
 use records::reading::read_record;
 use standby::Arrival;
 use standby::Numbers;
-use standby::arriving::take_record;
+use standby::arriving::arrive;
 use table::reading::word_at;
 ghost use mathlib.Core.Path.{_≡_};
 ghost use mathlib.Core.Bool.{true};
@@ -14,7 +14,7 @@ ghost use Prim.Native.Nat.{_+_, _*_, _<_, _≤_, _^_, min};
 ghost use lib.ListN.{length, getD, take, drop};
 ghost use Rattle.paths.specs.Copying.{Appends};
 ghost use Rattle.standby.specs.Arriving.{arrival};
-ghost use Rattle.holdlist.specs.Holding.{inputWord, wordsOf, isRefused, afterArrival, afterNext, heldFrom, beginning, heldOn, standing, Holds};
+ghost use Rattle.holdlist.specs.Holding.{inputWord, wordsOf, heldArrived, isRefused, afterArrival, afterNext, heldFrom, beginning, heldOn, standing, Holds};
 
 // The word in four bytes, most significant first.
 fn word_from(bytes: &[u8], at: usize) -> u32
@@ -72,23 +72,29 @@ fn is_refused(answer: Arrival) -> bool
     }
 }
 
-// The record that the words are arrives. One that is refused ends reading.
+// What is held behind an arrival of `count` words: one that is refused ends reading.
+fn hold_arrived(held: Held, count: usize, numbers: Numbers, answer: Arrival) -> Held
+    requires { ⌜ held .words + count < 2 ^ 64 ⌝ }
+    ensures { λ r. ⌜ r ≡ heldArrived held count numbers answer ⌝ }
+{
+    if is_refused(answer) {
+        return stop(held);
+    }
+    Held {
+        numbers,
+        words: held.words + count,
+        stopped: false,
+    }
+}
+
+// The record that the words are arrives at the numbers held, which are lent for it. Its proof is a walk by hand.
 fn hold_record(mem: &mut [u8], held: Held, words: &[u32]) -> Held
     requires { ⌜ held .words + length (now words) < 2 ^ 64 ⌝ }
     ensures { λ r. ⌜ Holds (afterArrival (arrival (now (mem .entry)) (now (words .entry)) (held .numbers)) (length (now (words .entry))) (standing (now (mem .entry)) held)) (now (mem .exit)) r ⌝ }
 {
-    let before = held.numbers;
-    let arrived = take_record(mem, words, before);
-    let answer = arrived.answer;
-    if is_refused(answer) {
-        return stop(held);
-    }
-    let numbers = arrived.numbers;
-    Held {
-        numbers,
-        words: held.words + words.len(),
-        stopped: false,
-    }
+    let mut numbers = held.numbers;
+    let answer = arrive(mem, words, &mut numbers);
+    hold_arrived(held, words.len(), numbers, answer)
 }
 
 // The record that the bytes behind what was taken begin with: it ends where its own act and length say. A malformed one ends reading.

@@ -11,13 +11,14 @@ use Rattle.refusals.specs.Refusals.{firstCause, Result, refused, ok, andThen, u
 use Rattle.paths.specs.declared.Descriptor.{Descriptor}
 use Rattle.paths.specs.declared.Resolution.{Resolution}
 use Rattle.paths.specs.declared.Resolution.the-variants as resolution
-use Rattle.paths.specs.Copying.{begun}
+use Rattle.paths.specs.Copying.{begun, Appends}
 use Rattle.paths.specs.Giving.{Query, queryOf, given, Gives}
 use Rattle.paths.proofs.GivingLaws.{gives-refused, gives-stands}
 use Rattle.table.specs.declared.Numbering.{Numbering}
 use Rattle.table.specs.Tables.{Table, has, prompt}
 use Rattle.table.specs.Memory.{tableOf, holds}
 use Rattle.table.specs.Calls.{tableIn}
+use Rattle.table.proofs.Overwrites.{from-start}
 use Rattle.table.proofs.CallLaws.{no-table, a-table}
 use Rattle.walk.specs.declared.PermissionState.{PermissionState}
 use Rattle.walk.specs.declared.PermissionState.the-variants as state
@@ -30,6 +31,7 @@ use Rattle.calls.specs.declared.Call.the-variants.{Check, Request}
 use Rattle.calls.specs.declared.Question.{Question}
 use Rattle.calls.specs.declared.Question.the-variants as question
 use Rattle.calls.specs.Decisions.{responseOf, knownResponse, Decision, asks, checkMode, checkBy, checkDesc, requestBy, requestDesc, decide}
+use Rattle.calls.specs.Texts.{textOf}
 use Rattle.calls.specs.Calls.{
   carriedOut,
   settled,
@@ -43,7 +45,7 @@ use Rattle.calls.specs.Calls.{
   questionText,
   Questions,
 }
-use Rattle.calls.specs.Asking.{Writes, PutsQuestion}
+use Rattle.calls.specs.Asking.{PutsQuestion}
 use Rattle.calls.proofs.AskLaws.{text-same}
 
 -- ---- the answer does not matter
@@ -121,10 +123,10 @@ module _ (call : Call) (numbers : Numbering) (m s : List ℕ) (d : Descriptor) (
 
 -- ---- what the code answers
 
-pub puts-text : {asks : Bool} {d : Descriptor} {given resolved s s′ : List ℕ} {n : ℕ} → asks ≡ true → Writes d given resolved s s′ n
+pub puts-text : {asks : Bool} {d : Descriptor} {given resolved s s′ : List ℕ} {n : ℕ} → asks ≡ true → Appends (textOf d given resolved) s 0 s′ n
     → PutsQuestion asks d given resolved s s′ (question.Asks n)
 unfolding questionBy
-puts-text f W = rw f (record { answer = ap question.Asks (W .size); space = W .bytes })
+puts-text f W = rw f (record { answer = ap question.Asks (from-start W .1); space = from-start W .0 })
 
 pub puts-nothing : {asks : Bool} {d : Descriptor} (given resolved s : List ℕ) → asks ≡ false → PutsQuestion asks d given resolved s s question.AsksNothing
 unfolding questionBy begun

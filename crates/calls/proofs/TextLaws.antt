@@ -1,6 +1,6 @@
 -- Laws of the texts: a path's first and last byte, the name that is shown, and pieces written one behind the other.
 use Prim.Native.Nat.{ℕ, suc, _+_, _-_, _≤_}
-use mathlib.Core.Path.{_≡_, refl, _∙_}
+use mathlib.Core.Path.{_≡_, refl}
 use mathlib.Core.List.{List, [], _∷_, _++_}
 use mathlib.Core.Bool.{Bool, true, false, _&&_, cond}
 use native.Mathlib.Omega.{arith}
@@ -26,7 +26,7 @@ use Rattle.calls.specs.Texts.{
   formatDisplayName,
   textOf,
 }
-use Rattle.calls.specs.Asking.{Writes, Finishes}
+use Rattle.calls.specs.Asking.{Finishes}
 
 -- ---- the first byte and the last
 
@@ -95,24 +95,14 @@ name-quoted name e h a b c = rw e (appends-more (omega arith) (appends-more (ome
 
 -- ---- the whole text
 
-writes : (d : Descriptor) (given resolved : List ℕ) {m m′ : List ℕ} {r : ℕ} → Appends (textOf d given resolved) m 0 m′ r
-    → Writes d given resolved m m′ r
-writes d given resolved a = record { size = from-start a .1; bytes = from-start a .0 }
-
--- with no path
-pub writes-access : (given resolved : List ℕ) {m m′ : List ℕ} {r : ℕ} → Appends readAccess m 0 m′ r
-    → Writes NoPath given resolved m m′ r
-unfolding textOf
-writes-access given resolved a = writes NoPath given resolved a
-
 -- with a path
-pub writes-name : (given resolved name : List ℕ) {m m₁ : List ℕ} {n₁ : ℕ} {m₂ : List ℕ} {n₂ : ℕ} {m₃ : List ℕ} {r : ℕ}
+pub text-named : (given resolved name : List ℕ) {m m₁ : List ℕ} {n₁ : ℕ} {m₂ : List ℕ} {n₂ : ℕ} {m₃ : List ℕ} {r : ℕ}
     → 1041 ≤ length m → name ≡ displayName given resolved
     → Appends readAccess m 0 m₁ n₁ → Appends to m₁ n₁ m₂ n₂ → Appends (formatDisplayName name) m₂ n₂ m₃ r
-    → Writes Path given resolved m m₃ r
+    → Appends (textOf Path given resolved) m 0 m₃ r
 unfolding textOf
-writes-name given resolved name h e a b c =
-    writes Path given resolved (appends-more (omega arith) (appends-more (omega arith) a b) (rw e at c))
+text-named given resolved name h e a b c =
+    appends-more (omega arith) (appends-more (omega arith) a b) (rw e at c)
 
 -- ---- how long a text is
 
@@ -148,9 +138,9 @@ length-text Path given resolved h k =
 -- ---- the answer of a call that is decided
 
 module _ {state : PermissionState} {asked writes : Bool} {d : Descriptor} {given resolved s : List ℕ} where
-  pub finishes-written : {s′ : List ℕ} {n : ℕ} → writes ≡ true → Writes d given resolved s s′ n
+  pub finishes-written : {s′ : List ℕ} {n : ℕ} → writes ≡ true → Appends (textOf d given resolved) s 0 s′ n
       → Finishes state asked writes d given resolved s s′ (record { answer = answer.State state; asked = asked; text = n })
-  finishes-written e W = rw e (record { answer = refl; told = refl; size = W .size; space = W .bytes })
+  finishes-written e W = rw e (record { answer = refl; told = refl; size = from-start W .1; space = from-start W .0 })
 
 pub finishes-silent : {state : PermissionState} {asked writes : Bool} {d : Descriptor} (given resolved s : List ℕ) → writes ≡ false
     → Finishes state asked writes d given resolved s s (record { answer = answer.State state; asked = asked; text = 0 })

@@ -55,11 +55,6 @@ pub record HasText (d : Descriptor) (given resolved : List ℕ) (n : ℕ) (s : L
   pub short : n ≤ maxPath
   pub brief : d ≡ Path → length given ≤ maxPath
 
--- the text stands at the start of the lent space, r is its length, and what lies behind it is as it was
-pub record Writes (d : Descriptor) (given resolved before after : List ℕ) (r : ℕ) : Type 0 where
-  pub size : r ≡ length (textOf d given resolved)
-  pub bytes : after ≡ begun (textOf d given resolved) before
-
 -- the answer of a call that is decided, and the text space s after it
 pub record Finishes (state : PermissionState) (asked writes : Bool) (d : Descriptor) (given resolved s s′ : List ℕ) (r : Asked) : Type 0 where
   pub answer : r .answer ≡ answer.State state

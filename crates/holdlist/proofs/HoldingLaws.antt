@@ -10,7 +10,7 @@ use lib.Seq.{take-append-seam, take-take, take-at, length-take-le}
 use lib.Dec.{leb}
 use borrow.Author.Tests.{le-leb, lt-leb, leb-false}
 use Rattle.paths.specs.Copying.{begun, Appends}
-use Rattle.table.proofs.Overwrites.{from-start}
+use Rattle.table.proofs.Overwrites.{from-start, starts-inside}
 use Rattle.table.specs.declared.Action.{Action}
 use Rattle.records.specs.declared.Record.{Record}
 use Rattle.records.specs.declared.Record.the-variants as answer
@@ -80,10 +80,6 @@ module _ (ws : List ℕ) {space words : List ℕ} {count : ℕ} (W : Appends ws 
   unfolding begun
   taken-words = rw (from-start W .1, from-start W .0) (take-append-seam ws _)
 
-  taken-inside : count ≤ length words
-  unfolding begun
-  taken-inside = rw (from-start W .1, from-start W .0, length-append) (omega arith)
-
 -- what taking the first `end` of the words comes to
 pub record NextRecord (s : Standing) (bytes words : List ℕ) (count end : ℕ) : Type 0 where
   pub inside : end ≤ count
@@ -99,7 +95,7 @@ module _ (s : Standing) (bytes : List ℕ) {space words : List ℕ} {count : ℕ
       first-decides ws (take count words) s (rw (taken-words (take recordSpace ws) W) (sym (take-take recordSpace recordSpace ws (omega arith))))
 
   pub words-inside : count ≤ length words
-  words-inside = taken-inside _ W
+  words-inside = starts-inside W
 
   pub words-left : 4 * s .words ≤ length bytes → s .words + count ≤ length bytes
   words-left h =

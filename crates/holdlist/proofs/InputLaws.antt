@@ -10,7 +10,6 @@ use Rattle.paths.specs.Copying.{overwrite}
 use Rattle.holdlist.specs.declared.Held.{Held}
 use Rattle.holdlist.specs.declared.Came.{Came}
 use Rattle.holdlist.specs.declared.Came.the-variants as came
-use Rattle.holdlist.specs.declared.Input.{Input}
 use Rattle.holdlist.specs.declared.Input.the-variants as answer
 use Rattle.holdlist.specs.Holding.{Standing, behind, heldFrom, unnumbered, keptBytes, beginning, held, counted, heldOn, standing, Holds}
 use Rattle.holdlist.specs.Input.{bufferBytes, ReadsBehind, HoldsInput, all}

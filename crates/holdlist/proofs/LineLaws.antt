@@ -4,19 +4,19 @@ use mathlib.Core.Path.{_≡_, refl, sym, ap, _∙_}
 use mathlib.Core.List.{List, [], _∷_, _++_, append-nil, append-assoc}
 use mathlib.Core.Bool.{Bool, true, false, cond}
 use native.Mathlib.Omega.{arith}
-use lib.ListN.{length, take, drop, length-append}
+use lib.ListN.{length, take, length-append}
 use lib.Dec.{eqb}
 use borrow.Author.Tests.{eq-eqb, ne-eqb}
 use Rattle.refusals.specs.declared.Refusal.{Refusal}
 use Rattle.io.specs.Digits.{digits, Fewest}
-use Rattle.paths.specs.Copying.{begun, Appends}
+use Rattle.paths.specs.Copying.{Appends}
 use Rattle.table.specs.declared.Kind.{Kind}
 use Rattle.table.specs.declared.Cursor.{Cursor}
 use Rattle.table.specs.Entries.{Entry}
 use Rattle.table.specs.Tables.{Table, pathBytes}
 use Rattle.table.specs.Memory.{tableOf, holds}
 use Rattle.table.specs.Reading.{entriesFrom, isAtEntry, entryIn, firstEntry, nextEntry, InList, Reads}
-use Rattle.table.proofs.Overwrites.{appends-none, appends-as, appends-more, from-start}
+use Rattle.table.proofs.Overwrites.{appends-none, appends-as, appends-more}
 use Rattle.table.proofs.TableLaws.{valid-parts}
 use Rattle.table.proofs.Puts.{valid-of}
 use Rattle.table.proofs.ReadingLaws.{first-in, first-from, from-entry, from-end, next-in}
@@ -38,7 +38,6 @@ use Rattle.holdlist.specs.Lines.{
   entryLines,
   stoppedLine,
   listing,
-  Writes,
 }
 use Rattle.holdlist.proofs.EscapeLaws.{escaped-long}
 use Rattle.holdlist.proofs.DecimalLaws.{decimal-long, decimal-digits}
@@ -223,13 +222,6 @@ module _ (mem : List ℕ) (h : holds mem ≡ true) where
   pub entries-end : {m : List ℕ} {at : ℕ} {m′ : List ℕ} {r : ℕ} → Appends (entryLines (tableOf mem .entries)) m at m′ r → r ≤ at + 99072
   entries-end A = omega (arith, A .end, entries-room, lines-long (tableOf mem .entries))
 
-writes : {words m m′ : List ℕ} {r : ℕ} → Appends words m 0 m′ r → Writes words m m′ r
-writes A = record { size = from-start A .1; bytes = from-start A .0 }
-
-pub writes-inside : {words m m′ : List ℕ} {r : ℕ} → Writes words m m′ r → r ≤ length m′
-unfolding begun
-writes-inside {words} {m} W = omega (arith, W .size, ap length (W .bytes) ∙ length-append words (drop (length words) m))
-
 listing-by : (s : Standing) (b : Bool) → s .stopped ≡ b
     → header (tableOf (s .memory)) (s .numbers) ++ entryLines (tableOf (s .memory) .entries) ++ cond b (stoppedLine (s .words)) [] ≡ listing s
 unfolding listing
@@ -238,8 +230,8 @@ listing-by s b e =
 
 module _ (s : Standing) {m m₁ m₂ : List ℕ} {n₁ n₂ : ℕ} (h : n₁ ≤ length m)
     (a : Appends (header (tableOf (s .memory)) (s .numbers)) m 0 m₁ n₁) (b : Appends (entryLines (tableOf (s .memory) .entries)) m₁ n₁ m₂ n₂) where
-  pub listing-whole : s .stopped ≡ false → Writes (listing s) m m₂ n₂
-  listing-whole e = writes (appends-as (sym (append-nil _) ∙ listing-by s false e) (then h a b))
+  pub listing-whole : s .stopped ≡ false → Appends (listing s) m 0 m₂ n₂
+  listing-whole e = appends-as (sym (append-nil _) ∙ listing-by s false e) (then h a b)
 
-  pub listing-stopped : {m₃ : List ℕ} {r : ℕ} → s .stopped ≡ true → n₂ ≤ length m → Appends (stoppedLine (s .words)) m₂ n₂ m₃ r → Writes (listing s) m m₃ r
-  listing-stopped e l c = writes (appends-as (listing-by s true e) (then l (then h a b) c))
+  pub listing-stopped : {m₃ : List ℕ} {r : ℕ} → s .stopped ≡ true → n₂ ≤ length m → Appends (stoppedLine (s .words)) m₂ n₂ m₃ r → Appends (listing s) m 0 m₃ r
+  listing-stopped e l c = appends-as (listing-by s true e) (then l (then h a b) c)

@@ -3,12 +3,10 @@
 use Prim.Native.Nat.{ℕ, zero, suc, _+_, _/_, _%_}
 use Prim.Native.Char.{code}
 use Prim.Native.String.{String}
-use mathlib.Core.Path.{_≡_}
 use mathlib.Core.List.{List, [], _∷_, _++_}
 use mathlib.Core.Bool.{cond}
 use lib.ListN.{length}
 use lib.Dec.{ltb, eqb}
-use Rattle.paths.specs.Copying.{begun}
 use Rattle.table.specs.declared.Kind.{Kind}
 use Rattle.table.specs.declared.Kind.the-variants.{G, D, P, I}
 use Rattle.table.specs.Entries.{Entry}
@@ -73,8 +71,3 @@ listing s =
 -- room for all of it: 256 entries with 32,768 path bytes, each printed as three, and the other lines
 abbrev pub listingBytes : ℕ
 listingBytes = 99234
-
--- the space begins with the text, and the rest of it is as it was
-pub record Writes (words space space′ : List ℕ) (r : ℕ) : Type 0 where
-  pub size : r ≡ length words
-  pub bytes : space′ ≡ begun words space

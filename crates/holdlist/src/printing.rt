@@ -17,7 +17,7 @@ ghost use Rattle.table.specs.Tables.{pathBytes};
 ghost use Rattle.table.specs.Memory.{tableOf, holds};
 ghost use Rattle.holdlist.specs.Escaping.{isPlain, digit, escapedByte, escaped};
 ghost use Rattle.holdlist.specs.Holding.{standing};
-ghost use Rattle.holdlist.specs.Lines.{decimal, owedText, header, kindLetter, entryLine, entryLines, stoppedLine, listing, listingBytes, Writes};
+ghost use Rattle.holdlist.specs.Lines.{decimal, owedText, header, kindLetter, entryLine, entryLines, stoppedLine, listing, listingBytes};
 
 // Room for all that can be printed: 256 entries with 32,768 path bytes, each written as three, and the other lines.
 pub const LISTING_BYTES: usize = 99234;
@@ -167,7 +167,7 @@ fn append_stopped(space: &mut [u8], at: usize, words: usize) -> usize
 // Writes all that is printed from the space's start, and says how many bytes that is.
 pub fn write_listing(space: &mut [u8], mem: &[u8], held: Held) -> usize
     requires { ⌜ (holds (now mem) ≡ true) × (listingBytes ≤ length (now space)) ⌝ }
-    ensures { λ r. ⌜ Writes (listing (standing (now (mem .entry)) held)) (now (space .entry)) (now (space .exit)) r ⌝ }
+    ensures { λ r. ⌜ Appends (listing (standing (now (mem .entry)) held)) (now (space .entry)) 0 (now (space .exit)) r ⌝ }
 {
     let numbers = held.numbers;
     let from = write_header(space, mem, numbers);

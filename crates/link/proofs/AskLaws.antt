@@ -18,7 +18,7 @@ use Rattle.table.specs.declared.Action.{Action}
 use Rattle.table.specs.declared.Numbering.the-variants.{After}
 use Rattle.table.specs.Tables.{Table}
 use Rattle.table.specs.Memory.{tableOf, holds, doActs}
-use Rattle.table.specs.Carrying.{carryCause, actOf, actionOf, fits}
+use Rattle.table.specs.Carrying.{carryCause, actOf, actionOf}
 use Rattle.table.proofs.CallLaws.{no-table, a-table}
 use Rattle.table.proofs.Puts.{valid-of}
 use Rattle.walk.specs.declared.PermissionState.{PermissionState}

@@ -7,7 +7,7 @@ use mathlib.Core.Bool.{Bool, true}
 use native.Mathlib.Omega.{arith}
 use lib.ListN.{length, getD, take, drop, drop-of-length-le}
 use Rattle.refusals.specs.declared.Refusal.{Refusal}
-use Rattle.refusals.specs.Refusals.{refused, ok}
+use Rattle.refusals.specs.Refusals.{ok}
 use Rattle.paths.specs.declared.Descriptor.{Descriptor}
 use Rattle.paths.specs.declared.Descriptor.the-variants.{NoPath, Path}
 use Rattle.paths.specs.Giving.{queryOf}

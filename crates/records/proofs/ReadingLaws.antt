@@ -14,7 +14,6 @@ use Rattle.paths.specs.Components.{same}
 use Rattle.paths.specs.Copying.{overwrite, begun}
 use Rattle.paths.specs.Resolving.{maxPath, isResolved}
 use Rattle.paths.proofs.ComponentLaws.{and-left, and-right}
-use Rattle.table.specs.declared.Action.{Action}
 use Rattle.table.specs.declared.Action.the-variants.{SetSwitches, Revoke, RevokeAll}
 use Rattle.table.specs.Tables.{maxSwitches}
 use Rattle.table.specs.Acts.{setSwitches, revokeAll}

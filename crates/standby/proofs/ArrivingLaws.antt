@@ -31,7 +31,7 @@ use Rattle.records.specs.Answers.{recordAnswer, recordInto, ReadsRecord}
 use Rattle.records.proofs.WrittenLaws.{written-back, no-record, whole-record, words-left}
 use Rattle.standby.specs.declared.Numbers.{Numbers}
 use Rattle.standby.specs.declared.Arrival.{Arrival}
-use Rattle.standby.specs.declared.Arrival.the-variants.{Applied, Repeat, Early, Refused}
+use Rattle.standby.specs.declared.Arrival.the-variants.{Applied, Repeat, Early}
 use Rattle.standby.specs.declared.Arrived.{Arrived}
 use Rattle.standby.specs.Arriving.{
   standbyIn,

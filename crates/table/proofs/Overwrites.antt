@@ -110,3 +110,7 @@ appends-more {s} {m} {at} {m′} {n} {s′} h a b = record {
 pub from-start : {s m m′ : List ℕ} {r : ℕ} → Appends s m 0 m′ r → (m′ ≡ begun s m) × (r ≡ length s)
 unfolding begun overwrite
 from-start A = (A .content ∙ rw zero-add, A .end ∙ zero-add _)
+
+pub starts-inside : {s m m′ : List ℕ} {r : ℕ} → Appends s m 0 m′ r → r ≤ length m′
+unfolding begun
+starts-inside A = rw (from-start A .1, from-start A .0, length-append) (omega arith)

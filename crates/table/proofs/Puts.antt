@@ -1,6 +1,6 @@
 -- The laws that carry everything above: memory that holds a table is `put` of it, and memory that is `put` of a table within
 -- its limits holds that table. Callers cite these and open neither `encode` nor `holds`.
-use Prim.Native.Nat.{ℕ, _+_, _-_, _/_, _%_, _≤_, _<_}
+use Prim.Native.Nat.{ℕ, _+_, _/_, _%_, _≤_, _<_}
 use mathlib.Core.Path.{_≡_, refl, sym, ap, _∙_}
 use mathlib.Core.List.{List, [], _∷_}
 use mathlib.Core.Bool.{true, _&&_}

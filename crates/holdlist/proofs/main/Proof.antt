@@ -2,7 +2,7 @@
 use mathlib.Core.Path.{sym}
 use native.Mathlib.Omega.{arith}
 use lib.Seq.{length-take-le}
-use Rattle.holdlist.proofs.LineLaws.{writes-inside}
+use Rattle.table.proofs.Overwrites.{starts-inside}
 use Rattle.holdlist.proofs.KeepLaws.{input-held}
 use borrow.Author.Needs.{needs}
 use Rattle.holdlist.proofs.main.Statement.{statement}
@@ -52,7 +52,7 @@ write-listing-requires c κs =
     (input-held (omega arith) (fresh .make-fresh .ensures) (input .hold-input .ensures) (known .held .given .1), omega arith)
 
 array-share-prefix-space : tie.Need-array-share-prefix-space
-array-share-prefix-space c = writes-inside (c .before .write-listing .ensures)
+array-share-prefix-space c = starts-inside (c .before .write-listing .ensures)
 
 slice-aggregate-write-all-2 : tie.Need-slice-aggregate-write-all-2
 slice-aggregate-write-all-2 c = sym (length-take-le _ _ (array-share-prefix-space (c .before)))

@@ -28,8 +28,8 @@ use Rattle.table.specs.declared.Outcome.the-variants.{Done, Refused}
 use Rattle.table.specs.Tables.{Table}
 use Rattle.table.specs.Acts.{Act, applyActs}
 use Rattle.table.specs.Memory.{tableOf, holds, doActs}
-use Rattle.table.specs.Carrying.{carryCause, actsOf, actOf, actionOf, fits, CarriesOut}
-use Rattle.table.specs.Calls.{tableIn}
+use Rattle.table.specs.Carrying.{Link, plain, carryCause, actsOf, actOf, actionOf, fits, CarriesOut}
+use Rattle.table.specs.Calls.{tableIn, recordRoom}
 use Rattle.table.proofs.ActLaws.{carried-done, carried-refused, carried-held, acted-carried}
 use Rattle.table.proofs.CarryingLaws.{action-again}
 use Rattle.table.proofs.CallLaws.{no-table, a-table}
@@ -60,6 +60,7 @@ use Rattle.calls.specs.Calls.{
   textSpace,
   askCall,
   textDue,
+  Answers,
   Asks,
   revokeAct,
   revokeDesc,
@@ -179,28 +180,30 @@ module _ {call : Call} {numbers : Numbering} {m : List ℕ} {d : Descriptor} {p 
 
 -- ---- the checking order of check and request
 
-module _ (call : Call) (numbers : Numbering) (m s : List ℕ) (d : Descriptor) (p cwd : List ℕ) (response : ℕ) where
-  pub ask-no-table : holds m ≡ false
-      → askCall call numbers m s d p cwd response ≡ refused NoTable
+module _ (call : Call) (link : Link) (m s : List ℕ) (d : Descriptor) (p cwd : List ℕ) (response : ℕ) where
+  pub ask-no-table : holds m ≡ false → askCall call link m s d p cwd response ≡ refused NoTable
   unfolding askCall andThen
   ask-no-table h = rw (no-table m h)
 
   module _ (h : holds m ≡ true) where
-    pub ask-no-space : length s < textBytes
-        → askCall call numbers m s d p cwd response ≡ refused NoSpace
+    pub ask-no-space : length s < textBytes → askCall call link m s d p cwd response ≡ refused NoSpace
     unfolding askCall andThen textSpace firstCause unless
     ask-no-space l = rw (a-table m h, lt-ltb _ _ l)
 
-    module _ (room : textBytes ≤ length s) where
-      pub ask-unknown : responseOf response ≡ Unknown
-          → askCall call numbers m s d p cwd response ≡ refused refusal.Unknown
-      unfolding askCall andThen textSpace firstCause unless knownResponse
-      ask-unknown u = rw (a-table m h, le-ltb _ _ room, u)
+    module _ (space : textBytes ≤ length s) where
+      pub ask-no-room : recordRoom 1 link ≡ refused NoSpace → askCall call link m s d p cwd response ≡ refused NoSpace
+      unfolding askCall andThen textSpace firstCause unless
+      ask-no-room e = rw (a-table m h, le-ltb _ _ space, e)
 
-      pub ask-known : (known : PromptResponse) → responseOf response ≡ Response known
-          → askCall call numbers m s d p cwd response ≡ settled call numbers (tableOf m) d p cwd known
-      unfolding askCall andThen textSpace firstCause unless knownResponse
-      ask-known known u = rw (a-table m h, le-ltb _ _ room, u)
+      module _ {numbers : Numbering} (room : recordRoom 1 link ≡ ok numbers) where
+        pub ask-unknown : responseOf response ≡ Unknown → askCall call link m s d p cwd response ≡ refused refusal.Unknown
+        unfolding askCall andThen textSpace firstCause unless knownResponse
+        ask-unknown u = rw (a-table m h, le-ltb _ _ space, room, u)
+
+        pub ask-known : (known : PromptResponse) → responseOf response ≡ Response known
+            → askCall call link m s d p cwd response ≡ settled call numbers (tableOf m) d p cwd known
+        unfolding askCall andThen textSpace firstCause unless knownResponse
+        ask-known known u = rw (a-table m h, le-ltb _ _ space, room, u)
 
 -- ---- what the call answers and leaves
 
@@ -211,13 +214,33 @@ text-same {d = Path} {p = p} S = ap (textOf Path p) (S .bytes refl)
 pub text-room : {d : Descriptor} {p cwd : List ℕ} {n : ℕ} {s t : List ℕ} → textBytes ≤ length t → Stands d p cwd n s → HasText d p s n t
 text-room h S = record { room = h; inside = S .room; short = S .short; brief = S .brief }
 
-module _ {call : Call} {m s : List ℕ} {d : Descriptor} {p cwd : List ℕ} {response : ℕ} where
-  pub asks-refused : {cause : Refusal} {m′ : List ℕ} {r : Asked} → askCall call Plain m s d p cwd response ≡ refused cause → r ≡ refusedAsk cause → m′ ≡ m
-      → Asks call m s d p cwd response m′ s r
-  unfolding answerIn askedIn textDue textIn actsIn doActs begun
-  asks-refused e f q = rw f (record { answer = rw e; asked = rw e; size = rw e; space = rw e; memory = rw e q })
+pub answers-refused : {c : Result Decision} {d : Descriptor} {p cwd s : List ℕ} {cause : Refusal} {r : Asked} → c ≡ refused cause → r ≡ refusedAsk cause
+    → Answers c d p cwd s s r
+unfolding answerIn askedIn textDue textIn begun
+answers-refused e f = rw f (record { answer = rw e; asked = rw e; size = rw e; space = rw e })
 
-  module _ {known : PromptResponse} (e : askCall call Plain m s d p cwd response ≡ settled call Plain (tableOf m) d p cwd known)
+pub answers-finished : {call : Call} {numbers : Numbering} {m : List ℕ} {d : Descriptor} {p cwd : List ℕ} {known : PromptResponse} {z m′ z′ : List ℕ} {r : Settled}
+    {c : Result Decision} → c ≡ settled call numbers (tableOf m) d p cwd known → (S : Settles call numbers m d p cwd known z m′ z′ r)
+    → {state : PermissionState} {asked writes : Bool} {n : ℕ} {action : Action} {s s′ : List ℕ} {a : Asked} → (f : r ≡ settled-as.Decided state asked writes n action)
+    → Finishes state asked writes d p (take n z′) s s′ a → Answers c d p cwd s s′ a
+unfolding answerIn askedIn textDue textIn
+answers-finished e S f F =
+    let T = settled-told S f in
+    let text = text-same (settled-stands S f) in
+    record {
+      answer = rw (e, T .is) (F .answer ∙ ap answer.State (T .state-is));
+      asked = rw (e, T .is) (F .told ∙ T .asked-is);
+      size = rw (e, T .is, ← T .writes-is, ← text) (F .size);
+      space = rw (e, T .is, ← T .writes-is, ← text) (F .space);
+    }
+
+module _ {call : Call} {m s : List ℕ} {d : Descriptor} {p cwd : List ℕ} {response : ℕ} where
+  pub asks-refused : {cause : Refusal} {m′ : List ℕ} {r : Asked} → askCall call plain m s d p cwd response ≡ refused cause → r ≡ refusedAsk cause → m′ ≡ m
+      → Asks call m s d p cwd response m′ s r
+  unfolding actsIn doActs
+  asks-refused e f q = record { answers = answers-refused e f; memory = rw e q }
+
+  module _ {known : PromptResponse} (e : askCall call plain m s d p cwd response ≡ settled call Plain (tableOf m) d p cwd known)
       {z m′ z′ : List ℕ} {r : Settled} (S : Settles call Plain m d p cwd known z m′ z′ r) where
     pub asks-stopped : {cause : Refusal} {a : Asked} → r ≡ settled-as.Refused cause → a ≡ refusedAsk cause → Asks call m s d p cwd response m′ s a
     unfolding actsIn doActs
@@ -225,17 +248,7 @@ module _ {call : Call} {m s : List ℕ} {d : Descriptor} {p cwd : List ℕ} {res
 
     pub asks-finished : {state : PermissionState} {asked writes : Bool} {n : ℕ} {action : Action} {s′ : List ℕ} {a : Asked} → r ≡ settled-as.Decided state asked writes n action
         → Finishes state asked writes d p (take n z′) s s′ a → Asks call m s d p cwd response m′ s′ a
-    unfolding answerIn askedIn textDue textIn
-    asks-finished f F =
-        let T = settled-told S f in
-        let text = text-same (settled-stands S f) in
-        record {
-          answer = rw (e, T .is) (F .answer ∙ ap answer.State (T .state-is));
-          asked = rw (e, T .is) (F .told ∙ T .asked-is);
-          size = rw (e, T .is, ← T .writes-is, ← text) (F .size);
-          space = rw (e, T .is, ← T .writes-is, ← text) (F .space);
-          memory = rw e (S .memory);
-        }
+    asks-finished f F = record { answers = answers-finished e S f F; memory = rw e (S .memory) }
 
 -- ---- how long its text is
 
@@ -249,12 +262,12 @@ stands-short NoPath p cwd S = omega arith
 stands-short Path p cwd {n} {s} S =
     length-text Path p (resolve p cwd) (S .brief refl) (omega (arith, ap length (S .bytes refl), length-take-le n s (S .room), S .short))
 
-due-short : (call : Call) (d : Descriptor) (p cwd : List ℕ) (t : Table) (known : PromptResponse) (c : Result Decision)
-    → settled call Plain t d p cwd known ≡ c → length (textDue c d p cwd) ≤ textBytes
+due-short : (call : Call) (numbers : Numbering) (d : Descriptor) (p cwd : List ℕ) (t : Table) (known : PromptResponse) (c : Result Decision)
+    → settled call numbers t d p cwd known ≡ c → length (textDue c d p cwd) ≤ textBytes
 unfolding textDue textIn
-due-short call d p cwd t known (refused cause) e = omega arith
-due-short call d p cwd t known (ok decision) e =
-    cut-short (decision .writes) _ (stands-short d p cwd (decided-stands call Plain t d p cwd known [] e))
+due-short call numbers d p cwd t known (refused cause) e = omega arith
+due-short call numbers d p cwd t known (ok decision) e =
+    cut-short (decision .writes) _ (stands-short d p cwd (decided-stands call numbers t d p cwd known [] e))
 
 step-short : {A : Type 0} (d : Descriptor) (p cwd : List ℕ) (a : Result A) (f : A → Result Decision)
     → ((x : A) → length (textDue (f x) d p cwd) ≤ textBytes) → length (textDue (andThen a f) d p cwd) ≤ textBytes
@@ -266,10 +279,11 @@ pub ask-short : {call : Call} {m s : List ℕ} {d : Descriptor} {p cwd : List �
     → Asks call m s d p cwd response m′ s′ r → r .text ≤ textBytes
 unfolding askCall
 ask-short {call} {m} {s} {d} {p} {cwd} {response} A =
-    rw (A .size)
+    rw (A .answers .size)
     (step-short d p cwd (tableIn m) _ (λ t.
     step-short d p cwd (textSpace s) _ (λ space.
-    step-short d p cwd (knownResponse (responseOf response)) _ (λ known. due-short call d p cwd t known _ refl))))
+    step-short d p cwd (recordRoom 1 plain) _ (λ numbers.
+    step-short d p cwd (knownResponse (responseOf response)) _ (λ known. due-short call numbers d p cwd t known _ refl)))))
 
 -- ---- revoke
 
@@ -301,19 +315,31 @@ module _ (q : Query) {numbers : Numbering} {m m′ : List ℕ} {o : Outcome} (h 
       let left = acted-carried numbers m (some (revokeAct q)) h (revoke-fits q f) in
       s ∙ ap (λ (t : Table). queryDesc t TreatAsPartialGranted q) (ap tableOf (C .memory) ∙ rw (carried-done C e) (rw (carried-done C e) at (left .table)))
 
-module _ {m : List ℕ} {d : Descriptor} {p cwd : List ℕ} where
-  pub revokes-no-table : holds m ≡ false → Revokes m d p cwd m (answer.Refused NoTable)
-  unfolding revokeCall andThen answerIn actsIn doActs
-  revokes-no-table h = record { answer = rw (no-table m h); memory = rw (no-table m h) }
+-- the checking order of a revoke
+module _ (link : Link) (m : List ℕ) (d : Descriptor) (p cwd : List ℕ) where
+  pub revoke-no-table : holds m ≡ false → revokeCall link m d p cwd ≡ refused NoTable
+  unfolding revokeCall andThen
+  revoke-no-table h = rw (no-table m h)
 
-  module _ (h : holds m ≡ true) {s s′ : List ℕ} {r : Resolution} (G : Gives d p cwd s r s′) where
-    pub revokes-refused : {cause : Refusal} → r ≡ resolution.Refused cause → Revokes m d p cwd m (answer.Refused cause)
-    unfolding revokeCall andThen answerIn actsIn doActs
-    revokes-refused e = record { answer = rw (a-table m h, gives-refused G e); memory = rw (a-table m h, gives-refused G e) }
-
-    pub revokes-query : {n : ℕ} {m′ : List ℕ} {a : Answer} → r ≡ resolution.Resolved n → RevokesQuery Plain (queryOf d (take n s′)) m m′ a
-        → Revokes m d p cwd m′ a
+  module _ (h : holds m ≡ true) where
+    pub revoke-no-room : recordRoom 1 link ≡ refused NoSpace → revokeCall link m d p cwd ≡ refused NoSpace
     unfolding revokeCall andThen
-    revokes-query e Q =
-        let S = gives-stands G e in
-        record { answer = rw (a-table m h, S .query) (Q .answer); memory = rw (a-table m h, S .query) (Q .memory) }
+    revoke-no-room e = rw (a-table m h, e)
+
+    module _ {numbers : Numbering} (room : recordRoom 1 link ≡ ok numbers) where
+      pub revoke-ungiven : {cause : Refusal} → given d p cwd ≡ refused cause → revokeCall link m d p cwd ≡ refused cause
+      unfolding revokeCall andThen
+      revoke-ungiven g = rw (a-table m h, room, g)
+
+      pub revoke-given : (q : Query) → given d p cwd ≡ ok q → revokeCall link m d p cwd ≡ carriedOut numbers (tableOf m) (revokeDesc (tableOf m) q)
+      unfolding revokeCall andThen
+      revoke-given q g = rw (a-table m h, room, g)
+
+module _ {m : List ℕ} {d : Descriptor} {p cwd : List ℕ} where
+  pub revokes-refused : {cause : Refusal} → revokeCall plain m d p cwd ≡ refused cause → Revokes m d p cwd m (answer.Refused cause)
+  unfolding answerIn actsIn doActs
+  revokes-refused e = record { answer = rw e; memory = rw e }
+
+  pub revokes-query : {q : Query} {m′ : List ℕ} {a : Answer} → revokeCall plain m d p cwd ≡ carriedOut Plain (tableOf m) (revokeDesc (tableOf m) q)
+      → RevokesQuery Plain q m m′ a → Revokes m d p cwd m′ a
+  revokes-query e Q = record { answer = rw e (Q .answer); memory = rw e (Q .memory) }

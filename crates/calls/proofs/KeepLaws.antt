@@ -10,7 +10,8 @@ use Rattle.paths.specs.Giving.{given}
 use Rattle.paths.proofs.GivingLaws.{given-fits}
 use Rattle.table.specs.declared.Numbering.{Numbering}
 use Rattle.table.specs.Memory.{tableOf, holds}
-use Rattle.table.specs.Carrying.{carryCause, fits}
+use Rattle.table.specs.Carrying.{Link, carryCause, fits}
+use Rattle.table.specs.Calls.{recordRoom}
 use Rattle.table.proofs.Puts.{valid-of}
 use Rattle.table.proofs.ActLaws.{Acted, acted-carried}
 use Rattle.table.proofs.CallLaws.{a-table}
@@ -42,24 +43,26 @@ settled-acted call numbers m d p cwd response h =
     carried-acted numbers m (decide call (tableOf m) q response) h (decided-fits (tableOf m) (valid-of m h) q (given-fits d p cwd e) response call))
 
 -- check and request
-pub ask-acted : (call : Call) (numbers : Numbering) (m s : List ℕ) (d : Descriptor) (p cwd : List ℕ) (response : ℕ) → holds m ≡ true
-    → Acted m (actsIn (askCall call numbers m s d p cwd response))
+pub ask-acted : (call : Call) (link : Link) (m s : List ℕ) (d : Descriptor) (p cwd : List ℕ) (response : ℕ) → holds m ≡ true
+    → Acted m (actsIn (askCall call link m s d p cwd response))
 unfolding askCall
-ask-acted call numbers m s d p cwd response h =
+ask-acted call link m s d p cwd response h =
     rw (a-table m h)
     (unfold andThen in
     step-acted actsIn no-acts m (textSpace s) _ h (λ space e.
-    step-acted actsIn no-acts m (knownResponse (responseOf response)) _ h (λ known f. settled-acted call numbers m d p cwd known h)))
+    step-acted actsIn no-acts m (recordRoom 1 link) _ h (λ numbers g.
+    step-acted actsIn no-acts m (knownResponse (responseOf response)) _ h (λ known f. settled-acted call numbers m d p cwd known h))))
 
 -- revoke
-pub revoke-acted : (numbers : Numbering) (m : List ℕ) (d : Descriptor) (p cwd : List ℕ) → holds m ≡ true
-    → Acted m (actsIn (revokeCall numbers m d p cwd))
+pub revoke-acted : (link : Link) (m : List ℕ) (d : Descriptor) (p cwd : List ℕ) → holds m ≡ true
+    → Acted m (actsIn (revokeCall link m d p cwd))
 unfolding revokeCall
-revoke-acted numbers m d p cwd h =
+revoke-acted link m d p cwd h =
     rw (a-table m h)
     (unfold andThen in
+    step-acted actsIn no-acts m (recordRoom 1 link) _ h (λ numbers g.
     step-acted actsIn no-acts m (given d p cwd) _ h (λ q e.
-    carried-acted numbers m (revokeDesc (tableOf m) q) h (unfold revokeDesc fits in revoke-fits q (given-fits d p cwd e))))
+    carried-acted numbers m (revokeDesc (tableOf m) q) h (unfold revokeDesc fits in revoke-fits q (given-fits d p cwd e)))))
 
 -- ---- by the promises
 
@@ -81,11 +84,11 @@ module _ (m : List ℕ) (d : Descriptor) (p cwd : List ℕ) {m′ : List ℕ} {r
 -- ---- wherever the table stands
 
 module _ (m n : List ℕ) (h : holds m ≡ true) (k : holds n ≡ true) (e : tableOf m ≡ tableOf n) where
-  pub same-ask : (call : Call) (numbers : Numbering) (s : List ℕ) (d : Descriptor) (p cwd : List ℕ) (response : ℕ)
-      → askCall call numbers m s d p cwd response ≡ askCall call numbers n s d p cwd response
+  pub same-ask : (call : Call) (link : Link) (s : List ℕ) (d : Descriptor) (p cwd : List ℕ) (response : ℕ)
+      → askCall call link m s d p cwd response ≡ askCall call link n s d p cwd response
   unfolding askCall
-  same-ask call numbers s d p cwd response = rw (same-table m n h k e)
+  same-ask call link s d p cwd response = rw (same-table m n h k e)
 
-  pub same-revoke : (numbers : Numbering) (d : Descriptor) (p cwd : List ℕ) → revokeCall numbers m d p cwd ≡ revokeCall numbers n d p cwd
+  pub same-revoke : (link : Link) (d : Descriptor) (p cwd : List ℕ) → revokeCall link m d p cwd ≡ revokeCall link n d p cwd
   unfolding revokeCall
-  same-revoke numbers d p cwd = rw (same-table m n h k e)
+  same-revoke link d p cwd = rw (same-table m n h k e)

@@ -17,7 +17,8 @@ use Rattle.paths.proofs.GivingLaws.{gives-refused, gives-stands}
 use Rattle.table.specs.declared.Numbering.{Numbering}
 use Rattle.table.specs.Tables.{Table, has, prompt}
 use Rattle.table.specs.Memory.{tableOf, holds}
-use Rattle.table.specs.Calls.{tableIn}
+use Rattle.table.specs.Carrying.{Link}
+use Rattle.table.specs.Calls.{tableIn, recordRoom}
 use Rattle.table.proofs.Overwrites.{from-start}
 use Rattle.table.proofs.CallLaws.{no-table, a-table}
 use Rattle.walk.specs.declared.PermissionState.{PermissionState}
@@ -90,36 +91,36 @@ asked-whatever call t q response = decide-whatever call t q response _
 
 -- ---- the call itself
 
--- with a known answer the call is what the question finds: refused by the same cause, or a decision that asks exactly where the question says so
+-- with a known answer, and room for its record if it is linked, the call is what the question finds: refused by the same cause, or a decision that asks exactly where the question says so
 -- and is still to be carried out (8 and 9)
 pub data Follows (numbers : Numbering) (t : Table) : Result Bool → Result Decision → Type 0 where
   stops : {cause : Refusal} → Follows numbers t (refused cause) (refused cause)
   goes : (decision : Decision) → Follows numbers t (ok (decision .asked)) (carriedOut numbers t decision)
 
-module _ (call : Call) (numbers : Numbering) (m s : List ℕ) (d : Descriptor) (p cwd : List ℕ) (response : ℕ) {known : PromptResponse}
-    (e : responseOf response ≡ Response known) where
+module _ (call : Call) (link : Link) (m s : List ℕ) (d : Descriptor) (p cwd : List ℕ) (response : ℕ) {numbers : Numbering} {known : PromptResponse}
+    (room : recordRoom 1 link ≡ ok numbers) (e : responseOf response ≡ Response known) where
   follows-given : (t : Table) (g : Result Query)
       → Follows numbers t (andThen g (λ q. ok (wouldAsk call t q))) (andThen g (λ q. carriedOut numbers t (decide call t q known)))
   unfolding andThen
   follows-given t (refused cause) = stops
   follows-given t (ok q) = rw (← asked-whatever call t q known) (goes (decide call t q known))
 
-  follows-space : (t : Table) (room : Result (List ℕ))
-      → Follows numbers t (andThen room (λ space. andThen (given d p cwd) (λ q. ok (wouldAsk call t q)))) (andThen room (λ space. settled call numbers t d p cwd known))
+  follows-space : (t : Table) (found : Result (List ℕ))
+      → Follows numbers t (andThen found (λ space. andThen (given d p cwd) (λ q. ok (wouldAsk call t q)))) (andThen found (λ space. settled call numbers t d p cwd known))
   unfolding andThen settled
   follows-space t (refused cause) = stops
   follows-space t (ok space) = follows-given t (given d p cwd)
 
-  pub question-follows : Follows numbers (tableOf m) (questionCall call m s d p cwd) (askCall call numbers m s d p cwd response)
+  pub question-follows : Follows numbers (tableOf m) (questionCall call m s d p cwd) (askCall call link m s d p cwd response)
   unfolding questionCall askCall andThen knownResponse
   question-follows = by (holds m) refl
     where
       by : (b : Bool) → holds m ≡ b
           → Follows numbers (tableOf m)
           (andThen (tableIn m) (λ t. andThen (textSpace s) (λ space. andThen (given d p cwd) (λ q. ok (wouldAsk call t q)))))
-          (andThen (tableIn m) (λ t. andThen (textSpace s) (λ space. andThen (knownResponse (responseOf response)) (λ known. settled call numbers t d p cwd known))))
+          (andThen (tableIn m) (λ t. andThen (textSpace s) (λ space. andThen (recordRoom 1 link) (λ numbers. andThen (knownResponse (responseOf response)) (λ known. settled call numbers t d p cwd known)))))
       by false h = rw (no-table m h) stops
-      by true h = rw (a-table m h, e) (follows-space (tableOf m) (textSpace s))
+      by true h = rw (a-table m h, room, e) (follows-space (tableOf m) (textSpace s))
 
 -- ---- what the code answers
 

@@ -13,12 +13,11 @@ use Rattle.paths.specs.Resolving.{resolve}
 use Rattle.paths.specs.Copying.{begun}
 use Rattle.paths.specs.Giving.{Query, noPath, path, given, givenSize, givenInto}
 use Rattle.table.specs.declared.Numbering.{Numbering}
-use Rattle.table.specs.declared.Numbering.the-variants.{Plain}
 use Rattle.table.specs.Tables.{Table}
 use Rattle.table.specs.Acts.{Act, revoke, revokeAll, applyAct}
 use Rattle.table.specs.Memory.{tableOf, doActs}
-use Rattle.table.specs.Carrying.{carryCause, actsOf, actionOf}
-use Rattle.table.specs.Calls.{tableIn}
+use Rattle.table.specs.Carrying.{Link, plain, carryCause, actsOf, actionOf}
+use Rattle.table.specs.Calls.{tableIn, recordRoom}
 use Rattle.walk.specs.declared.AllowPartial.the-variants.{TreatAsPartialGranted}
 use Rattle.walk.specs.declared.Answer.{Answer}
 use Rattle.walk.specs.declared.Answer.the-variants as answer
@@ -86,26 +85,30 @@ textBytes = 1041
 unfoldable pub textSpace : List ℕ → Result (List ℕ)
 textSpace s = unless (firstCause (when (ltb (length s) textBytes) NoSpace ∷ [])) s
 
--- 1, 2, 3, and then what is given; m is the lent memory, s the lent text space, p the path as given
-unfoldable pub askCall : Call → Numbering → List ℕ → List ℕ → Descriptor → List ℕ → List ℕ → ℕ → Result Decision
-askCall call numbers m s d p cwd response =
+-- 1, 2 of both spaces, 3, and then what is given, with 4 to 9; m is the lent memory, s the lent text space, p the path as given
+unfoldable pub askCall : Call → Link → List ℕ → List ℕ → Descriptor → List ℕ → List ℕ → ℕ → Result Decision
+askCall call link m s d p cwd response =
     andThen (tableIn m) (λ t.
     andThen (textSpace s) (λ space.
+    andThen (recordRoom 1 link) (λ numbers.
     andThen (knownResponse (responseOf response)) (λ known.
-    settled call numbers t d p cwd known)))
+    settled call numbers t d p cwd known))))
 
 -- the text that is due for a call of what is given
 unfoldable pub textDue : Result Decision → Descriptor → List ℕ → List ℕ → List ℕ
 textDue c d p cwd = textIn c (textOf d p (resolve p cwd))
 
--- memory m and text space s become m′ and s′: the act is done and the text stands at the space's start, or the call is refused and nothing
--- changes
+-- what a call that comes to c answers, and the text space s after it: the text stands at its start, and a refused call leaves it as it was
+pub record Answers (c : Result Decision) (d : Descriptor) (p cwd s s′ : List ℕ) (r : Asked) : Type 0 where
+  pub answer : r .answer ≡ answerIn c
+  pub asked : r .asked ≡ askedIn c
+  pub size : r .text ≡ length (textDue c d p cwd)
+  pub space : s′ ≡ begun (textDue c d p cwd) s
+
+-- memory m and text space s become m′ and s′: the act is done and the text written, or the call is refused and nothing changes
 pub record Asks (call : Call) (m s : List ℕ) (d : Descriptor) (p cwd : List ℕ) (response : ℕ) (m′ s′ : List ℕ) (r : Asked) : Type 0 where
-  pub answer : r .answer ≡ answerIn (askCall call Plain m s d p cwd response)
-  pub asked : r .asked ≡ askedIn (askCall call Plain m s d p cwd response)
-  pub size : r .text ≡ length (textDue (askCall call Plain m s d p cwd response) d p cwd)
-  pub space : s′ ≡ begun (textDue (askCall call Plain m s d p cwd response) d p cwd) s
-  pub memory : m′ ≡ doActs m (actsIn (askCall call Plain m s d p cwd response))
+  pub answers : Answers (askCall call plain m s d p cwd response) d p cwd s s′ r
+  pub memory : m′ ≡ doActs m (actsIn (askCall call plain m s d p cwd response))
 
 -- ---- what check and request would ask, before the operator's answer is known
 
@@ -155,13 +158,14 @@ revokeDesc t q = record {
   act = some (revokeAct q);
 }
 
--- 1, 4 to 7, and 9
-unfoldable pub revokeCall : Numbering → List ℕ → Descriptor → List ℕ → List ℕ → Result Decision
-revokeCall numbers m d p cwd =
+-- 1, 2, 4 to 7, 9
+unfoldable pub revokeCall : Link → List ℕ → Descriptor → List ℕ → List ℕ → Result Decision
+revokeCall link m d p cwd =
     andThen (tableIn m) (λ t.
+    andThen (recordRoom 1 link) (λ numbers.
     andThen (given d p cwd) (λ q.
-    carriedOut numbers t (revokeDesc t q)))
+    carriedOut numbers t (revokeDesc t q))))
 
 pub record Revokes (m : List ℕ) (d : Descriptor) (p cwd m′ : List ℕ) (r : Answer) : Type 0 where
-  pub answer : r ≡ answerIn (revokeCall Plain m d p cwd)
-  pub memory : m′ ≡ doActs m (actsIn (revokeCall Plain m d p cwd))
+  pub answer : r ≡ answerIn (revokeCall plain m d p cwd)
+  pub memory : m′ ≡ doActs m (actsIn (revokeCall plain m d p cwd))

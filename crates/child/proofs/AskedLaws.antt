@@ -12,9 +12,9 @@ use Rattle.refusals.specs.declared.Refusal.the-variants as refusal
 use Rattle.refusals.specs.Refusals.{when, firstCause, Result, refused, ok, andThen, unless}
 use Rattle.paths.proofs.ComponentLaws.{and-left}
 use Rattle.table.specs.declared.Numbering.{Numbering}
-use Rattle.table.specs.declared.Numbering.the-variants.{Plain}
 use Rattle.table.specs.Tables.{Table}
-use Rattle.table.specs.Calls.{tableIn, freshIn}
+use Rattle.table.specs.Carrying.{plain}
+use Rattle.table.specs.Calls.{tableIn, freshIn, recordRoom}
 use Rattle.calls.specs.declared.PromptResponse.{PromptResponse}
 use Rattle.child.specs.declared.ChildUnaryPermissionArg.{ChildUnaryPermissionArg}
 use Rattle.child.specs.declared.ChildUnaryPermissionArg.the-variants.{Inherit, Granted, NotGranted, GrantedList}
@@ -128,4 +128,5 @@ asked-few {m} {c} {code} {bytes} {ends} {responses} {cwd} C =
     rw (C .asked)
     (step-asked (tableIn m) _ (λ t.
     step-asked (freshIn c) _ (λ empty.
-    created-asked Plain t code bytes ends responses cwd)))
+    step-asked (recordRoom (length ends) plain) _ (λ numbers.
+    created-asked numbers t code bytes ends responses cwd))))

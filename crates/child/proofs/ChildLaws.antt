@@ -47,15 +47,16 @@ use Rattle.child.specs.Making.{
   completed,
   createChild,
 }
+use Rattle.table.specs.Carrying.{Link}
 use Rattle.child.specs.Calls.{childCall}
 use Rattle.child.proofs.MakingLaws.{then-stops, then-goes}
 
 -- ---- wherever the parent's table stands
 
-pub same-child : (m n c : List ℕ) → holds m ≡ true → holds n ≡ true → tableOf m ≡ tableOf n → (numbers : Numbering) (code : ℕ) (bytes ends responses cwd : List ℕ)
-    → childCall numbers m c code bytes ends responses cwd ≡ childCall numbers n c code bytes ends responses cwd
+pub same-child : (m n c : List ℕ) → holds m ≡ true → holds n ≡ true → tableOf m ≡ tableOf n → (link : Link) (code : ℕ) (bytes ends responses cwd : List ℕ)
+    → childCall link m c code bytes ends responses cwd ≡ childCall link n c code bytes ends responses cwd
 unfolding childCall
-same-child m n c h k e numbers code bytes ends responses cwd = rw (same-table m n h k e)
+same-child m n c h k e link code bytes ends responses cwd = rw (same-table m n h k e)
 
 -- ---- switches of the child's table u, step by step
 

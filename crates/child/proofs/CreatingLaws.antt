@@ -7,7 +7,7 @@ use mathlib.Core.Bool.{true, false}
 use native.Mathlib.Omega.{arith}
 use lib.ListN.{length}
 use Rattle.refusals.specs.declared.Refusal.{Refusal}
-use Rattle.refusals.specs.declared.Refusal.the-variants.{NoTable}
+use Rattle.refusals.specs.declared.Refusal.the-variants.{NoTable, NoSpace}
 use Rattle.refusals.specs.Refusals.{Result, refused, ok, andThen}
 use Rattle.table.specs.declared.Numbering.{Numbering}
 use Rattle.table.specs.declared.Numbering.the-variants.{Plain}
@@ -15,10 +15,11 @@ use Rattle.table.specs.declared.Outcome.{Outcome}
 use Rattle.table.specs.Tables.{Table, fresh, pathBytes, every, any, present, marksOf, isTable}
 use Rattle.table.specs.Acts.{applyActs}
 use Rattle.table.specs.Memory.{tableBytes, tableOf, holds, put, doActs}
-use Rattle.table.specs.Carrying.{past, outcomeOf}
+use Rattle.table.specs.Carrying.{Link, plain, past, outcomeOf}
+use Rattle.table.specs.Calls.{recordRoom}
 use Rattle.table.proofs.Puts.{valid-of, tableOf-put, holds-put}
 use Rattle.table.proofs.ActLaws.{acts-append, Acted, acted-none, acted-append}
-use Rattle.table.proofs.CallLaws.{no-table, a-table, fresh-short, fresh-long}
+use Rattle.table.proofs.CallLaws.{no-table, a-table, fresh-short, fresh-long, room-plain}
 use Rattle.child.specs.declared.ChildMade.{ChildMade}
 use Rattle.child.specs.declared.ChildUnaryPermissionArg.{ChildUnaryPermissionArg}
 use Rattle.child.specs.declared.ChildUnaryPermissionArg.the-variants.{Inherit, Granted, NotGranted, GrantedList}
@@ -76,31 +77,35 @@ module _ (arg : ChildUnaryPermissionArg) (m c : List ℕ) {c₁ : List ℕ} (h :
 
 -- ---- the checking order
 
-module _ (m c : List ℕ) (code : ℕ) (bytes ends responses cwd : List ℕ) where
-  pub child-no-table : holds m ≡ false → childCall Plain m c code bytes ends responses cwd ≡ refused NoTable
+module _ (link : Link) (m c : List ℕ) (code : ℕ) (bytes ends responses cwd : List ℕ) where
+  pub child-no-table : holds m ≡ false → childCall link m c code bytes ends responses cwd ≡ refused NoTable
   unfolding childCall andThen
   child-no-table h = rw (no-table m h)
 
   module _ (h : holds m ≡ true) where
-    pub child-small : length c < tableBytes → childCall Plain m c code bytes ends responses cwd ≡ refused NoTable
+    pub child-small : length c < tableBytes → childCall link m c code bytes ends responses cwd ≡ refused NoTable
     unfolding childCall andThen
     child-small l = rw (a-table m h, fresh-short c l)
 
     module _ (long : tableBytes ≤ length c) where
-      pub child-unknown : {cause : Refusal} → argumentsOf code bytes ends responses ≡ refused cause
-          → childCall Plain m c code bytes ends responses cwd ≡ refused cause
+      pub child-no-room : recordRoom (length ends) link ≡ refused NoSpace → childCall link m c code bytes ends responses cwd ≡ refused NoSpace
       unfolding childCall andThen
-      child-unknown e = rw (a-table m h, fresh-long c long, e)
+      child-no-room e = rw (a-table m h, fresh-long c long, e)
 
-      pub child-known : (args : Arguments) → argumentsOf code bytes ends responses ≡ ok args
-          → childCall Plain m c code bytes ends responses cwd ≡ ok (creation Plain (tableOf m) cwd args)
-      unfolding childCall andThen
-      child-known args e = rw (a-table m h, fresh-long c long, e)
+      module _ {numbers : Numbering} (room : recordRoom (length ends) link ≡ ok numbers) where
+        pub child-unknown : {cause : Refusal} → argumentsOf code bytes ends responses ≡ refused cause → childCall link m c code bytes ends responses cwd ≡ refused cause
+        unfolding childCall andThen
+        child-unknown e = rw (a-table m h, fresh-long c long, room, e)
+
+        pub child-known : (args : Arguments) → argumentsOf code bytes ends responses ≡ ok args
+            → childCall link m c code bytes ends responses cwd ≡ ok (creation numbers (tableOf m) cwd args)
+        unfolding childCall andThen
+        child-known args e = rw (a-table m h, fresh-long c long, room, e)
 
 -- ---- what the call answers and leaves
 
 pub creates-refused : {m c : List ℕ} {code : ℕ} {bytes ends responses cwd : List ℕ} {cause : Refusal} {a : ChildMade}
-    → childCall Plain m c code bytes ends responses cwd ≡ refused cause → a ≡ madeRefused cause 0 → CreatesChild m c code bytes ends responses cwd m c a
+    → childCall plain m c code bytes ends responses cwd ≡ refused cause → a ≡ madeRefused cause 0 → CreatesChild m c code bytes ends responses cwd m c a
 unfolding refusalIn askedIn actsIn childAfter outcomeOf doActs
 creates-refused e f = rw f (record { outcome = rw e; asked = rw e; parent = rw e; child = rw e })
 
@@ -213,5 +218,5 @@ pub creates : {m c : List ℕ} {code : ℕ} {bytes ends-of responses cwd : List 
     → Ran Plain m c code bytes ends-of responses cwd args c₁ m′ c₂ r → {c₃ : List ℕ} {a : ChildMade}
     → Completes (afterItems (r .outcome) (takeOver (tableOf m′) (tableOf c₂))) (r .asked) c₂ c₃ a → CreatesChild m c code bytes ends-of responses cwd m′ c₃ a
 creates {m} {c} {code} {bytes} {ends-of} {responses} {cwd} {args} R C =
-    let B = creates-by R (child-known m c code bytes ends-of responses cwd (R .holding) (R .long) args (R .read)) C in
+    let B = creates-by R (child-known plain m c code bytes ends-of responses cwd (R .holding) (R .long) (room-plain _) args (R .read)) C in
     record { outcome = B .outcome; asked = B .asked; parent = B .parent; child = B .child }

@@ -18,7 +18,8 @@ use Rattle.table.specs.Entries.{Entry, isGranted}
 use Rattle.table.specs.Tables.{Table, fresh, isEntry, every, isTable}
 use Rattle.table.specs.Acts.{Act, insert, keptUnless, without, isAct, applyAct, applyActs}
 use Rattle.table.specs.Memory.{tableBytes, tableOf, holds, put, doActs}
-use Rattle.table.specs.Calls.{freshIn}
+use Rattle.table.specs.Carrying.{plain}
+use Rattle.table.specs.Calls.{freshIn, recordRoom}
 use Rattle.table.proofs.TableLaws.{valid-parts}
 use Rattle.table.proofs.Puts.{valid-of, long-of, tableOf-put, holds-put}
 use Rattle.table.proofs.ActLaws.{Acted, acted-none, acted-append}
@@ -126,8 +127,8 @@ made-acted m c cwd args h long = both m c cwd args h long .parent
 -- ---- by the promise
 
 module _ (m c : List ℕ) (code : ℕ) (bytes ends responses cwd : List ℕ) (h : holds m ≡ true) where
-  parent-acted : Acted m (actsIn (childCall Plain m c code bytes ends responses cwd))
-  unfolding childCall
+  parent-acted : Acted m (actsIn (childCall plain m c code bytes ends responses cwd))
+  unfolding childCall recordRoom
   parent-acted =
       rw (a-table m h)
       (unfold andThen in
@@ -159,13 +160,13 @@ module _ (m c : List ℕ) (code : ℕ) (bytes ends responses cwd : List ℕ) (h 
       subst (λ (x : Creation). holds (childLeft (x .made .refused) (doActs (put (x .first) c) (x .made .grants))) ≡ true) made
       (unfold creation in left-held (createChild Plain (tableOf m) args cwd .refused) _ (both m c cwd args h (long-by c e) .child .holding))
 
-  child-call : {s : Creation} → childCall Plain m c code bytes ends responses cwd ≡ ok s
+  child-call : {s : Creation} → childCall plain m c code bytes ends responses cwd ≡ ok s
       → andThen (freshIn c) (λ empty. andThen (argumentsOf code bytes ends responses) (λ args. ok (creation Plain (tableOf m) cwd args))) ≡ ok s
-  unfolding childCall andThen
+  unfolding childCall andThen recordRoom
   child-call e = rw (a-table m h) at e
 
   -- it holds a table, unless the call is refused before any item
-  pub child-held : {s : Creation} {m′ c′ : List ℕ} {r : ChildMade} → childCall Plain m c code bytes ends responses cwd ≡ ok s
+  pub child-held : {s : Creation} {m′ c′ : List ℕ} {r : ChildMade} → childCall plain m c code bytes ends responses cwd ≡ ok s
       → CreatesChild m c code bytes ends responses cwd m′ c′ r → holds c′ ≡ true
   unfolding childAfter
   child-held e C = rw (C .child, e) (child-by (freshIn c) (argumentsOf code bytes ends responses) refl (child-call e))

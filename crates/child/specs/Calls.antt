@@ -3,15 +3,15 @@ use Prim.Native.Nat.{ℕ}
 use mathlib.Core.Path.{_≡_}
 use mathlib.Core.List.{List, []}
 use mathlib.Core.Option.{Option, none, some}
+use lib.ListN.{length}
 use Rattle.refusals.specs.declared.Refusal.{Refusal}
 use Rattle.refusals.specs.Refusals.{Result, refused, ok, andThen}
 use Rattle.table.specs.declared.Numbering.{Numbering}
-use Rattle.table.specs.declared.Numbering.the-variants.{Plain}
 use Rattle.table.specs.Tables.{Table, fresh}
 use Rattle.table.specs.Acts.{Act}
 use Rattle.table.specs.Memory.{put, doActs}
-use Rattle.table.specs.Carrying.{outcomeOf}
-use Rattle.table.specs.Calls.{tableIn, freshIn}
+use Rattle.table.specs.Carrying.{Link, plain, outcomeOf}
+use Rattle.table.specs.Calls.{tableIn, freshIn, recordRoom}
 use Rattle.child.specs.declared.ChildMade.{ChildMade}
 use Rattle.child.specs.Arguments.{Arguments, argumentsOf}
 use Rattle.child.specs.Making.{Made, firstChild, createChild}
@@ -24,13 +24,14 @@ pub record Creation : Type 0 where
 unfoldable pub creation : Numbering → Table → List ℕ → Arguments → Creation
 creation numbers t cwd args = record { first = firstChild (args .arg) t; made = createChild numbers t args cwd }
 
--- 1 of the parent's memory m and of the child's c, 3, and then the items
-unfoldable pub childCall : Numbering → List ℕ → List ℕ → ℕ → List ℕ → List ℕ → List ℕ → List ℕ → Result Creation
-childCall numbers m c code bytes ends responses cwd =
+-- 1 of the parent's memory m and of the child's c, 2, 3, and then the items
+unfoldable pub childCall : Link → List ℕ → List ℕ → ℕ → List ℕ → List ℕ → List ℕ → List ℕ → Result Creation
+childCall link m c code bytes ends responses cwd =
     andThen (tableIn m) (λ t.
     andThen (freshIn c) (λ empty.
+    andThen (recordRoom (length ends) link) (λ numbers.
     andThen (argumentsOf code bytes ends responses) (λ args.
-    ok (creation numbers t cwd args))))
+    ok (creation numbers t cwd args)))))
 
 -- ---- what a call leaves
 
@@ -59,7 +60,7 @@ childAfter (ok s) c = childLeft (s .made .refused) (doActs (put (s .first) c) (s
 
 -- memory m of the parent and c of the child become m′ and c′
 pub record CreatesChild (m c : List ℕ) (code : ℕ) (bytes ends responses cwd m′ c′ : List ℕ) (r : ChildMade) : Type 0 where
-  pub outcome : r .outcome ≡ outcomeOf (refusalIn (childCall Plain m c code bytes ends responses cwd))
-  pub asked : r .asked ≡ askedIn (childCall Plain m c code bytes ends responses cwd)
-  pub parent : m′ ≡ doActs m (actsIn (childCall Plain m c code bytes ends responses cwd))
-  pub child : c′ ≡ childAfter (childCall Plain m c code bytes ends responses cwd) c
+  pub outcome : r .outcome ≡ outcomeOf (refusalIn (childCall plain m c code bytes ends responses cwd))
+  pub asked : r .asked ≡ askedIn (childCall plain m c code bytes ends responses cwd)
+  pub parent : m′ ≡ doActs m (actsIn (childCall plain m c code bytes ends responses cwd))
+  pub child : c′ ≡ childAfter (childCall plain m c code bytes ends responses cwd) c

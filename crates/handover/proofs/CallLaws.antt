@@ -1,6 +1,6 @@
 -- What the linked calls send can be recorded: for each of them, whatever it is lent and handed, where memory holds a table and paths are bytes.
 use Prim.Native.Nat.{ℕ, _+_, _-_}
-use mathlib.Core.Path.{_≡_, refl, sym, _∙_}
+use mathlib.Core.Path.{_≡_, refl, sym, subst, _∙_}
 use mathlib.Core.List.{List, [], _∷_}
 use mathlib.Core.Option.{Option, none, some}
 use mathlib.Core.Bool.{true}
@@ -16,14 +16,15 @@ use Rattle.paths.specs.Resolving.{resolve}
 use Rattle.paths.specs.Giving.{Query, isQuery, resolved, queryOf, given, givenSize, givenInto}
 use Rattle.paths.proofs.ByteLaws.{bytes-none, bytes-take, bytes-drop, resolve-bytes}
 use Rattle.paths.proofs.GivingLaws.{resolved-fits, given-stands, given-fits}
+use Rattle.table.specs.declared.Numbering.{Numbering}
 use Rattle.table.specs.declared.Numbering.the-variants.{After}
 use Rattle.table.specs.declared.Kind.{Kind}
 use Rattle.table.specs.Entries.{kindOf, knownKind}
 use Rattle.table.specs.Tables.{Table, isEntry, isTable}
 use Rattle.table.specs.Acts.{Act, insert, setSwitches, isAct, applyActs}
 use Rattle.table.specs.Memory.{tableOf, holds, doActs}
-use Rattle.table.specs.Carrying.{past, actsOf, actOf, actionOf, fits}
-use Rattle.table.specs.Calls.{tableIn, freshIn, knownSwitches, carried}
+use Rattle.table.specs.Carrying.{linked, past, actsOf, actOf, actionOf, fits}
+use Rattle.table.specs.Calls.{tableIn, freshIn, recordRoom, knownSwitches, carried, switchesCall, insertCall}
 use Rattle.table.specs.Calls as table-calls
 use Rattle.table.proofs.Puts.{valid-of}
 use Rattle.table.proofs.CallLaws.{a-table}
@@ -31,15 +32,14 @@ use Rattle.calls.specs.declared.PromptResponse.{PromptResponse}
 use Rattle.calls.specs.declared.Call.{Call}
 use Rattle.calls.specs.declared.Call.the-variants.{Check}
 use Rattle.calls.specs.Decisions.{responseOf, knownResponse, Decision, decide}
-use Rattle.calls.specs.Calls.{carriedOut, actsIn, settled, textSpace, revokeAct, revokeDesc}
+use Rattle.calls.specs.Calls.{carriedOut, actsIn, settled, textSpace, askCall, revokeAct, revokeDesc, revokeCall}
 use Rattle.calls.proofs.ActionLaws.{decided-of, revoke-of}
 use Rattle.calls.proofs.FittingLaws.{decided-fits, revoke-fits}
-use Rattle.link.specs.Linked.{recordRoom, linkedInsert, linkedSwitches, linkedAsk, linkedRevoke, linkedChild}
 use Rattle.child.specs.declared.ChildUnaryPermissionArg.{ChildUnaryPermissionArg}
 use Rattle.child.specs.declared.ChildUnaryPermissionArg.the-variants.{Inherit, Granted, NotGranted, GrantedList}
 use Rattle.child.specs.Arguments.{argOf, knownArg, knownResponses, Item, listItems, grantedItem, itemsOf, argumentsOf}
 use Rattle.child.specs.Making.{Made, onward, itemStep, allItems, takeOver, completed, createChild}
-use Rattle.child.specs.Calls.{Creation, creation}
+use Rattle.child.specs.Calls.{Creation, creation, childCall}
 use Rattle.child.specs.Calls as child-calls
 use Rattle.child.proofs.MakingLaws.{item-acts, granting-acts}
 use Rattle.child.proofs.ItemLaws.{stands-query}
@@ -70,6 +70,12 @@ hands-unless (some cause) x h = stops
 on-table : {A : Type 0} {P : A → Type 0} (m : List ℕ) (f : Table → Result A) → holds m ≡ true → Hands P (f (tableOf m)) → Hands P (andThen (tableIn m) f)
 unfolding andThen
 on-table m f h H = rw (a-table m h) H
+
+-- the record space: acts are numbered after n
+on-room : {A : Type 0} {P : A → Type 0} (k n : ℕ) (w : List ℕ) (f : Numbering → Result A) → Hands P (f (After n)) → Hands P (andThen (recordRoom k (linked n w)) f)
+unfolding recordRoom
+on-room {P = P} k n w f H =
+    step (hands-unless {P = λ numbers. After n ≡ numbers} _ _ (λ e. refl)) (λ numbers e. subst (λ (x : Numbering). Hands P (f x)) e H)
 
 -- ---- the acts of a call, by what it hands on
 
@@ -177,47 +183,42 @@ items-recorded n cwd m u h C (item-more {i = i} B rest) =
 -- ---- each call
 
 module _ (n : ℕ) (m w : List ℕ) (h : holds m ≡ true) where
-  pub switches-recorded : (v : ℕ) → Recorded n (tableOf m) (table-calls.actsIn (linkedSwitches n m w v))
-  unfolding linkedSwitches carried
+  pub switches-recorded : (v : ℕ) → Recorded n (tableOf m) (table-calls.actsIn (switchesCall (linked n w) m v))
+  unfolding switchesCall carried
   switches-recorded v =
-      by-act (on-table m _ h (
-      step (itself (recordRoom 1 w)) (λ room _.
+      by-act (on-table m _ h (on-room 1 n w _ (
       step (itself (knownSwitches v)) (λ k e.
       hands-unless _ _ (carried-recorded (switches-sound v e))))))
 
   module _ (p cwd : List ℕ) (B : Bytes p) (C : Bytes cwd) where
-    pub insert-recorded : (kind : ℕ) → Recorded n (tableOf m) (table-calls.actsIn (linkedInsert n m w kind p cwd))
-    unfolding linkedInsert carried
+    pub insert-recorded : (kind : ℕ) → Recorded n (tableOf m) (table-calls.actsIn (insertCall (linked n w) m kind p cwd))
+    unfolding insertCall carried
     insert-recorded kind =
-        by-act (on-table m _ h (
-        step (itself (recordRoom 1 w)) (λ room _.
+        by-act (on-table m _ h (on-room 1 n w _ (
         step (itself (knownKind (kindOf kind))) (λ k _.
         step (itself (resolved p cwd)) (λ q e.
         hands-unless _ _ (carried-recorded (insert-sound p cwd B C k e)))))))
 
-    pub ask-recorded : (call : Call) (s : List ℕ) (d : Descriptor) (response : ℕ) → Recorded n (tableOf m) (actsIn (linkedAsk call n m s w d p cwd response))
-    unfolding linkedAsk
+    pub ask-recorded : (call : Call) (s : List ℕ) (d : Descriptor) (response : ℕ) → Recorded n (tableOf m) (actsIn (askCall call (linked n w) m s d p cwd response))
+    unfolding askCall
     ask-recorded call s d response =
         by-decision (on-table m _ h (
-        step (itself (textSpace s)) (λ space _.
-        step (itself (recordRoom 1 w)) (λ room _.
+        step (itself (textSpace s)) (λ space _. on-room 1 n w _ (
         step (itself (knownResponse (responseOf response))) (λ known _.
         settled-hands p cwd B C call n (tableOf m) d known (valid-of m h))))))
 
-    pub revoke-recorded : (d : Descriptor) → Recorded n (tableOf m) (actsIn (linkedRevoke n m w d p cwd))
-    unfolding linkedRevoke carriedOut revokeDesc fits
+    pub revoke-recorded : (d : Descriptor) → Recorded n (tableOf m) (actsIn (revokeCall (linked n w) m d p cwd))
+    unfolding revokeCall carriedOut revokeDesc fits
     revoke-recorded d =
-        by-decision (on-table m _ h (
-        step (itself (recordRoom 1 w)) (λ room _.
+        by-decision (on-table m _ h (on-room 1 n w _ (
         step (itself (given d p cwd)) (λ q e.
         hands-unless _ _ (carried-recorded (given-sound p cwd B C d (λ q. some (revokeAct q)) e (revoke-fits q) (revoke-of (resolve p cwd) d)))))))
 
   pub create-recorded : (c : List ℕ) (code : ℕ) (bytes ends responses cwd : List ℕ) → Bytes bytes → Bytes cwd
-      → Recorded n (tableOf m) (child-calls.actsIn (linkedChild n m c w code bytes ends responses cwd))
-  unfolding linkedChild creation createChild completed takeOver
+      → Recorded n (tableOf m) (child-calls.actsIn (childCall (linked n w) m c code bytes ends responses cwd))
+  unfolding childCall creation createChild completed takeOver
   create-recorded c code bytes ends responses cwd B C =
       by-creation (on-table m _ h (
-      step (itself (freshIn c)) (λ empty _.
-      step (itself (recordRoom (length ends) w)) (λ room _.
+      step (itself (freshIn c)) (λ empty _. on-room (length ends) n w _ (
       step (arguments-bytes code bytes ends responses B) (λ args items.
       hands (then-recorded _ _ _ (items-recorded n cwd m _ h C items) (rw (granting-acts _ _) no-act)))))))

@@ -17,8 +17,8 @@ use Rattle.paths.proofs.ComponentLaws.{and-left, and-right}
 use Rattle.table.specs.Tables.{Table, fresh, pathBytes, every, any, present, marksOf, isTable}
 use Rattle.table.specs.Acts.{Act, isAct, actOverflows, applyAct, applyActs}
 use Rattle.table.specs.Memory.{tableBytes, tableOf, holds, put, doActs}
-use Rattle.table.specs.Carrying.{outcomeOf}
-use Rattle.table.specs.Calls.{tableIn}
+use Rattle.table.specs.Carrying.{linked, outcomeOf}
+use Rattle.table.specs.Calls.{tableIn, switchesCall, insertCall}
 use Rattle.table.specs.Calls as table-calls
 use Rattle.table.proofs.ActLaws.{Acted, acted-none, acted-one, acted-append, applied-append}
 use Rattle.table.proofs.CallLaws.{a-table}
@@ -27,13 +27,12 @@ use Rattle.walk.specs.declared.Answer.{Answer}
 use Rattle.walk.specs.Calls.{queryAnswer}
 use Rattle.calls.specs.declared.Call.{Call}
 use Rattle.calls.specs.Decisions.{Decision}
-use Rattle.calls.specs.Calls.{askedIn, textDue}
+use Rattle.calls.specs.Calls.{askedIn, askCall, textDue, revokeCall}
 use Rattle.calls.specs.Calls as calls
-use Rattle.child.specs.Calls.{Creation, refusalIn, childAfter}
+use Rattle.child.specs.Calls.{Creation, childCall, refusalIn, childAfter}
 use Rattle.child.specs.Calls as child-calls
 use Rattle.records.specs.Records.{numbered, allWords, readChange}
 use Rattle.link.specs.Sending.{Sends}
-use Rattle.link.specs.Linked.{linkedInsert, linkedSwitches, linkedAsk, linkedRevoke, linkedChild}
 use Rattle.link.proofs.SendingLaws.{numbered-append}
 use Rattle.standby.specs.declared.Numbers.{Numbers}
 use Rattle.standby.specs.declared.Arrival.{Arrival}
@@ -74,7 +73,7 @@ sends : (a : Main) (w : List ℕ) {made acts : List Act} → made ≡ acts
 sends a w e = rw e (record { memory = refl; number = refl; words = refl; count = refl })
 
 module _ (a : Main) (w : List ℕ) where
-  pub insert-steps : (kind : ℕ) (p cwd : List ℕ) → Bytes p → Bytes cwd → (call : Result Act) → linkedInsert (a .number) (a .memory) w kind p cwd ≡ call
+  pub insert-steps : (kind : ℕ) (p cwd : List ℕ) → Bytes p → Bytes cwd → (call : Result Act) → insertCall (linked (a .number) w) (a .memory) kind p cwd ≡ call
       → Steps a (table-calls.actsIn call) (inserting kind p (outcomeOf (causeOf call)))
   unfolding lineOf
   insert-steps kind p cwd b c call e =
@@ -88,7 +87,7 @@ module _ (a : Main) (w : List ℕ) where
         is = refl;
       }
 
-  pub switches-steps : (v : ℕ) (call : Result Act) → linkedSwitches (a .number) (a .memory) w v ≡ call
+  pub switches-steps : (v : ℕ) (call : Result Act) → switchesCall (linked (a .number) w) (a .memory) v ≡ call
       → Steps a (table-calls.actsIn call) (switching v (outcomeOf (causeOf call)))
   unfolding lineOf
   switches-steps v call e =
@@ -103,7 +102,7 @@ module _ (a : Main) (w : List ℕ) where
       }
 
   pub ask-steps : (kind : Call) (s : List ℕ) (d : Descriptor) (p cwd : List ℕ) (response : ℕ) → Bytes p → Bytes cwd → (call : Result Decision)
-      → linkedAsk kind (a .number) (a .memory) s w d p cwd response ≡ call → Steps a (calls.actsIn call) (asking kind d p response (calls.answerIn call))
+      → askCall kind (linked (a .number) w) (a .memory) s d p cwd response ≡ call → Steps a (calls.actsIn call) (asking kind d p response (calls.answerIn call))
   unfolding lineOf
   ask-steps kind s d p cwd response b c call e =
       let acts = calls.actsIn call in
@@ -114,13 +113,13 @@ module _ (a : Main) (w : List ℕ) where
             (record { answered = record { answer = calls.answerIn call; asked = askedIn call; text = length text }; words = length (sent a acts) })
             b
             c
-            (record { answer = rw e; asked = rw e; size = rw e; space = rw e; sends = sends a w (rw e) })
+            (record { answers = record { answer = rw e; asked = rw e; size = rw e; space = rw e }; sends = sends a w (rw e) })
             (rw e)
             (at-start _ _);
         is = refl;
       }
 
-  pub revoke-steps : (d : Descriptor) (p cwd : List ℕ) → Bytes p → Bytes cwd → (call : Result Decision) → linkedRevoke (a .number) (a .memory) w d p cwd ≡ call
+  pub revoke-steps : (d : Descriptor) (p cwd : List ℕ) → Bytes p → Bytes cwd → (call : Result Decision) → revokeCall (linked (a .number) w) (a .memory) d p cwd ≡ call
       → Steps a (calls.actsIn call) (revoking d p (calls.answerIn call))
   unfolding lineOf
   revoke-steps d p cwd b c call e =
@@ -135,7 +134,7 @@ module _ (a : Main) (w : List ℕ) where
       }
 
   pub child-steps : (c : List ℕ) (code : ℕ) (bytes ends responses cwd : List ℕ) → Bytes bytes → Bytes cwd → (call : Result Creation)
-      → linkedChild (a .number) (a .memory) c w code bytes ends responses cwd ≡ call
+      → childCall (linked (a .number) w) (a .memory) c code bytes ends responses cwd ≡ call
       → Steps a (child-calls.actsIn call) (creating code bytes ends responses (outcomeOf (refusalIn call)))
   unfolding lineOf
   child-steps c code bytes ends responses cwd b d call e =

@@ -39,10 +39,11 @@ use Rattle.table.specs.Acts.{
   applyActs,
 }
 use Rattle.table.specs.Memory.{tableBytes}
-use Rattle.table.specs.Carrying.{usedUp, past, carryCause, actsOf, outcomeOf}
-use Rattle.table.specs.Calls.{knownSwitches, carried}
+use Rattle.table.specs.declared.Numbering.the-variants.{After}
+use Rattle.table.specs.Carrying.{linked, usedUp, past, carryCause, actsOf, outcomeOf}
+use Rattle.table.specs.Calls.{recordSpace, atLeastOne, recordRoom, knownSwitches, carried, switchesCall, insertCall}
 use Rattle.table.specs.Calls as table-calls
-use Rattle.table.proofs.CallLaws.{fresh-long}
+use Rattle.table.proofs.CallLaws.{fresh-long, room-long}
 use Rattle.walk.specs.declared.PermissionState.the-variants.{Granted, Prompt, Denied}
 use Rattle.walk.specs.declared.Answer.the-variants as answer
 use Rattle.walk.specs.Walk.{
@@ -82,7 +83,7 @@ use Rattle.calls.specs.Decisions.{
   requestDesc,
   decide,
 }
-use Rattle.calls.specs.Calls.{carriedOut, settled, textBytes, textSpace, revokeAct, revokeDesc}
+use Rattle.calls.specs.Calls.{carriedOut, settled, textBytes, textSpace, askCall, revokeAct, revokeDesc, revokeCall}
 use Rattle.calls.specs.Calls as ask-calls
 use Rattle.child.specs.Arguments.{
   argOf,
@@ -109,10 +110,9 @@ use Rattle.child.specs.Making.{
   completed,
   createChild,
 }
-use Rattle.child.specs.Calls.{creation, refusalIn}
+use Rattle.child.specs.Calls.{creation, childCall, refusalIn}
 use Rattle.child.specs.Calls as child-calls
 use Rattle.records.specs.Records.{
-  recordSpace,
   actNumber,
   pathWords,
   pathPart,
@@ -136,9 +136,7 @@ use Rattle.records.specs.Records.{
   ended,
   readChange,
 }
-use Rattle.link.specs.Linked.{atLeastOne, recordRoom, linkedSwitches, linkedInsert, linkedAsk, linkedRevoke, linkedChild}
-use Rattle.link.proofs.LinkedLaws.{a-room}
-use Rattle.link.proofs.ChildLaws.{room-long}
+use Rattle.link.proofs.SendingLaws.{a-room}
 use Rattle.standby.specs.Arriving.{wellFormed, higher, applied, passedBy, taken, arrival, answerIn, actsIn, numbersIn}
 use Rattle.handover.specs.Handover.{recordsOf, records}
 use Rattle.handover.specs.Witness.{creating, Steps, calls, kept, acts, recordOf, came, answers, Lent, Witness}
@@ -190,12 +188,12 @@ module _ (L : Lent) where
   abbrev w : List ℕ
   w = L .words
 
-  room : recordRoom 1 w ≡ ok w
-  room = a-room w (omega (arith, L .wordRoom))
+  room : (n : ℕ) → recordRoom 1 (linked n w) ≡ ok (After n)
+  room n = a-room n w (omega (arith, L .wordRoom))
 
-  room₂ : recordRoom 2 w ≡ ok w
+  room₂ : (n : ℕ) → recordRoom 2 (linked n w) ≡ ok (After n)
   unfolding atLeastOne
-  room₂ = room-long 2 w (le-ltb (length w) (recordSpace * 2) (L .wordRoom))
+  room₂ n = room-long 2 n w (le-ltb (length w) (recordSpace * 2) (L .wordRoom))
 
   text : textSpace (L .text) ≡ ok (L .text)
   unfolding textSpace firstCause unless
@@ -219,7 +217,7 @@ module _ (L : Lent) where
       onward grantedBy countOf passedOn checked itemBy itemStep allItems firstChild completed createChild creation refusalIn child-calls.actsIn
       actNumber pathWords pathPart actPart changeWords numbered allWords recordsOf
       isLength isSwitches isPathWord withBytes bytesFrom ifResolved readPath withPath readSwitches readAct withNumber readFirst endedBy ended readChange
-      linkedInsert linkedSwitches linkedAsk linkedRevoke linkedChild
+      insertCall switchesCall askCall revokeCall childCall
       wellFormed higher applied passedBy taken arrival answerIn actsIn numbersIn
       allFit
   witness = record {

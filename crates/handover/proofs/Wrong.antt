@@ -9,11 +9,11 @@ use Rattle.refusals.specs.Refusals.{firstCause, ok, andThen, unless, causeOf}
 use Rattle.table.specs.declared.Outcome.the-variants.{Done}
 use Rattle.table.specs.Tables.{Table, fresh}
 use Rattle.table.specs.Acts.{Act, setSwitches, applyAct, actOverflows, isAct, applyActs}
-use Rattle.table.specs.Carrying.{usedUp, carryCause, outcomeOf}
-use Rattle.table.specs.Calls.{knownSwitches, carried}
+use Rattle.table.specs.declared.Numbering.the-variants as numbering
+use Rattle.table.specs.Carrying.{linked, usedUp, carryCause, outcomeOf}
+use Rattle.table.specs.Calls.{recordSpace, recordRoom, knownSwitches, carried, switchesCall}
 use Rattle.table.specs.Calls as table-calls
 use Rattle.records.specs.Records.{
-  recordSpace,
   actNumber,
   actPart,
   changeWords,
@@ -28,8 +28,7 @@ use Rattle.records.specs.Records.{
   ended,
   readChange,
 }
-use Rattle.link.specs.Linked.{recordRoom, linkedSwitches}
-use Rattle.link.proofs.LinkedLaws.{a-room}
+use Rattle.link.proofs.SendingLaws.{a-room}
 use Rattle.standby.specs.declared.Arrival.{Arrival}
 use Rattle.standby.specs.declared.Arrival.the-variants.{Applied, Repeat, Early, Refused}
 use Rattle.standby.specs.Arriving.{wellFormed, higher, applied, passedBy, taken, arrival, answerIn, actsIn, numbersIn}
@@ -64,12 +63,12 @@ twice = setSwitches 1 ∷ setSwitches 2 ∷ []
 w : List ℕ
 w = spaceOf recordSpace
 
-room : recordRoom 1 w ≡ ok w
+room : (n : ℕ) → recordRoom 1 (linked n w) ≡ ok (numbering.After n)
 unfolding w
-room = a-room (spaceOf recordSpace) (omega (arith, length-space recordSpace))
+room n = a-room n (spaceOf recordSpace) (omega (arith, length-space recordSpace))
 
 run : Run twice (switching 1 Done ∷ switching 2 Done ∷ [])
-unfolding firstCause andThen unless causeOf knownSwitches carried carryCause actOverflows usedUp outcomeOf table-calls.actsIn linkedSwitches allFit isAct
+unfolding firstCause andThen unless causeOf knownSwitches carried carryCause actOverflows usedUp outcomeOf table-calls.actsIn switchesCall allFit isAct
 run = second (first (run-fresh is-fresh))
   where
     first : Run [] [] → Run (setSwitches 1 ∷ []) (switching 1 Done ∷ [])

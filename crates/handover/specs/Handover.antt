@@ -14,29 +14,22 @@ use Rattle.paths.specs.Components.{Bytes}
 use Rattle.table.specs.Tables.{fresh}
 use Rattle.table.specs.Acts.{Act, applyActs}
 use Rattle.table.specs.Memory.{tableOf, holds}
+use Rattle.table.specs.Carrying.{linked}
+use Rattle.table.specs.Calls.{switchesCall, insertCall}
 use Rattle.table.specs.Calls as table-calls
 use Rattle.walk.specs.declared.Answer.{Answer}
 use Rattle.walk.specs.Calls.{queryAnswer}
 use Rattle.calls.specs.declared.Call.{Call}
+use Rattle.calls.specs.Calls.{askCall, revokeCall}
 use Rattle.calls.specs.Calls as calls
+use Rattle.child.specs.Calls.{childCall}
 use Rattle.child.specs.Calls as child-calls
 use Rattle.records.specs.Records.{Change, changeWords, numbered, allWords}
 use Rattle.link.specs.declared.Sent.{Sent}
 use Rattle.link.specs.declared.AskSent.{AskSent}
 use Rattle.link.specs.declared.RevokeSent.{RevokeSent}
 use Rattle.link.specs.declared.ChildSent.{ChildSent}
-use Rattle.link.specs.Linked.{
-  linkedInsert,
-  LinkedInserts,
-  linkedSwitches,
-  LinkedSwitches,
-  linkedAsk,
-  LinkedAsks,
-  linkedRevoke,
-  LinkedRevokes,
-  linkedChild,
-  LinkedChild,
-}
+use Rattle.link.specs.Linked.{LinkedInserts, LinkedSwitches, LinkedAsks, LinkedRevokes, LinkedChild}
 use Rattle.standby.specs.declared.Numbers.{Numbers}
 use Rattle.standby.specs.declared.Arrival.{Arrival}
 use Rattle.standby.specs.declared.Arrival.the-variants.{Refused}
@@ -58,28 +51,28 @@ pub record Main : Type 0 where
 pub data Step (a : Main) (acts : List Act) (wrote : List ℕ) (a′ : Main) : Type 0 where
   inserts : (w : List ℕ) (kind : ℕ) (p cwd w′ : List ℕ) (r : Sent) → Bytes p → Bytes cwd
       → LinkedInserts (a .memory) (a .number) w kind p cwd (a′ .memory) (a′ .number) w′ r
-      → acts ≡ table-calls.actsIn (linkedInsert (a .number) (a .memory) w kind p cwd)
+      → acts ≡ table-calls.actsIn (insertCall (linked (a .number) w) (a .memory) kind p cwd)
       → wrote ≡ take (r .words) w′
       → Step a acts wrote a′
   switches : (w : List ℕ) (v : ℕ) (w′ : List ℕ) (r : Sent)
       → LinkedSwitches (a .memory) (a .number) w v (a′ .memory) (a′ .number) w′ r
-      → acts ≡ table-calls.actsIn (linkedSwitches (a .number) (a .memory) w v)
+      → acts ≡ table-calls.actsIn (switchesCall (linked (a .number) w) (a .memory) v)
       → wrote ≡ take (r .words) w′
       → Step a acts wrote a′
   -- check and request
   asks : (call : Call) (s w : List ℕ) (d : Descriptor) (p cwd : List ℕ) (response : ℕ) (s′ w′ : List ℕ) (r : AskSent) → Bytes p → Bytes cwd
       → LinkedAsks call (a .memory) (a .number) s w d p cwd response (a′ .memory) (a′ .number) s′ w′ r
-      → acts ≡ calls.actsIn (linkedAsk call (a .number) (a .memory) s w d p cwd response)
+      → acts ≡ calls.actsIn (askCall call (linked (a .number) w) (a .memory) s d p cwd response)
       → wrote ≡ take (r .words) w′
       → Step a acts wrote a′
   revokes : (w : List ℕ) (d : Descriptor) (p cwd w′ : List ℕ) (r : RevokeSent) → Bytes p → Bytes cwd
       → LinkedRevokes (a .memory) (a .number) w d p cwd (a′ .memory) (a′ .number) w′ r
-      → acts ≡ calls.actsIn (linkedRevoke (a .number) (a .memory) w d p cwd)
+      → acts ≡ calls.actsIn (revokeCall (linked (a .number) w) (a .memory) d p cwd)
       → wrote ≡ take (r .words) w′
       → Step a acts wrote a′
   creates : (c w : List ℕ) (code : ℕ) (bytes ends responses cwd c′ w′ : List ℕ) (r : ChildSent) → Bytes bytes → Bytes cwd
       → LinkedChild (a .memory) (a .number) c w code bytes ends responses cwd (a′ .memory) (a′ .number) c′ w′ r
-      → acts ≡ child-calls.actsIn (linkedChild (a .number) (a .memory) c w code bytes ends responses cwd)
+      → acts ≡ child-calls.actsIn (childCall (linked (a .number) w) (a .memory) c code bytes ends responses cwd)
       → wrote ≡ take (r .words) w′
       → Step a acts wrote a′
   -- a query is lent the memory for reading alone

@@ -19,7 +19,8 @@ use Rattle.walk.specs.Cases.{bytes, entry}
 use Rattle.calls.specs.declared.Call.{Call}
 use Rattle.calls.specs.declared.Call.the-variants.{Check, Request}
 use Rattle.calls.specs.Calls.{textBytes}
-use Rattle.records.specs.Records.{recordSpace, numbered, allWords}
+use Rattle.table.specs.Calls.{recordSpace}
+use Rattle.records.specs.Records.{numbered, allWords}
 use Rattle.standby.specs.declared.Arrival.{Arrival}
 use Rattle.standby.specs.declared.Arrival.the-variants.{Applied, Repeat, Early}
 use Rattle.standby.specs.Arriving.{Arrives}

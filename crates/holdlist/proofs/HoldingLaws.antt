@@ -20,8 +20,8 @@ use Rattle.refusals.specs.declared.Refusal.{Refusal}
 use Rattle.refusals.specs.Refusals.{Result, refused, ok, andThen}
 use Rattle.table.specs.declared.Numbering.the-variants.{Plain}
 use Rattle.table.specs.Memory.{tableOf, doActs}
-use Rattle.table.specs.Calls.{carried}
-use Rattle.records.specs.Records.{Change, recordSpace, Read, changeWords, readFirst}
+use Rattle.table.specs.Calls.{recordSpace, carried}
+use Rattle.records.specs.Records.{Change, Read, changeWords, readFirst}
 use Rattle.standby.specs.declared.Numbers.{Numbers}
 use Rattle.standby.specs.declared.Arrival.{Arrival}
 use Rattle.standby.specs.Arriving.{Taken, applied, passedBy, arrival, answerIn, actsIn, numbersIn, Arrives}

@@ -9,7 +9,8 @@ use native.Mathlib.Omega.{arith}
 use lib.ListN.{length, drop, length-append, length-drop}
 use lib.Seq.{drop-append-le, drop-drop}
 use Rattle.refusals.specs.Refusals.{Result, refused, ok}
-use Rattle.records.specs.Records.{Change, recordSpace, Read, changeWords, readFirst}
+use Rattle.table.specs.Calls.{recordSpace}
+use Rattle.records.specs.Records.{Change, Read, changeWords, readFirst}
 use Rattle.standby.specs.declared.Numbers.{Numbers}
 use Rattle.standby.specs.Arriving.{Taken, arrival}
 use Rattle.holdlist.specs.Holding.{

@@ -11,7 +11,8 @@ use lib.Seq.{paste, take-append-seam, take-take, take-at, getD-drop}
 use Rattle.paths.specs.Copying.{Appends}
 use Rattle.paths.proofs.CopyLaws.{paste-more}
 use Rattle.table.proofs.Moves.{paste-over}
-use Rattle.records.specs.Records.{Change, recordSpace, Read, changeWords, readFirst}
+use Rattle.table.specs.Calls.{recordSpace}
+use Rattle.records.specs.Records.{Change, Read, changeWords, readFirst}
 use Rattle.records.proofs.RecordLaws.{read-first, few-words}
 use Rattle.records.proofs.WrittenLaws.{written-first}
 use Rattle.holdlist.specs.Holding.{inputWord, wordsOf, Standing, afterRecord}

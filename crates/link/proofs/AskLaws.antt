@@ -1,81 +1,45 @@
--- Laws of the linked check and request: each way through the checking order, and what a call that is decided sends.
-use Prim.Native.Nat.{ℕ, _+_, _≤_, _<_}
+-- Laws of the linked check and request: a call that is refused, and what one that is decided sends.
+use Prim.Native.Nat.{ℕ, _+_, _≤_}
 use mathlib.Core.Path.{_≡_, refl, sym, ap, _∙_}
 use mathlib.Core.List.{List}
 use mathlib.Core.Option.{Option, none, some}
-use mathlib.Core.Bool.{Bool, true, false}
+use mathlib.Core.Bool.{Bool, true}
 use native.Mathlib.Omega.{arith}
 use lib.ListN.{length, take}
-use borrow.Author.Tests.{lt-ltb, le-ltb}
 use Rattle.refusals.specs.declared.Refusal.{Refusal}
-use Rattle.refusals.specs.declared.Refusal.the-variants.{NoTable, NoSpace}
-use Rattle.refusals.specs.declared.Refusal.the-variants as refusal
-use Rattle.refusals.specs.Refusals.{firstCause, Result, refused, ok, andThen, unless}
+use Rattle.refusals.specs.Refusals.{Result, refused, ok, andThen, unless}
 use Rattle.paths.specs.declared.Descriptor.{Descriptor}
-use Rattle.paths.specs.Copying.{begun}
 use Rattle.paths.specs.Giving.{queryOf}
 use Rattle.table.specs.declared.Action.{Action}
 use Rattle.table.specs.declared.Numbering.the-variants.{After}
 use Rattle.table.specs.Tables.{Table}
 use Rattle.table.specs.Memory.{tableOf, holds, doActs}
-use Rattle.table.specs.Carrying.{carryCause, actOf, actionOf}
-use Rattle.table.proofs.CallLaws.{no-table, a-table}
+use Rattle.table.specs.Carrying.{linked, carryCause, actOf, actionOf}
 use Rattle.table.proofs.Puts.{valid-of}
 use Rattle.walk.specs.declared.PermissionState.{PermissionState}
-use Rattle.walk.specs.declared.Answer.the-variants as answer
 use Rattle.calls.specs.declared.PromptResponse.{PromptResponse}
-use Rattle.calls.specs.declared.ResponseRead.the-variants.{Response, Unknown}
 use Rattle.calls.specs.declared.Call.{Call}
 use Rattle.calls.specs.declared.Settled.{Settled}
 use Rattle.calls.specs.declared.Settled.the-variants as settled-as
 use Rattle.calls.specs.declared.Asked.{Asked}
-use Rattle.calls.specs.Decisions.{responseOf, knownResponse, Decision, decide}
-use Rattle.calls.specs.Calls.{carriedOut, answerIn, askedIn, actsIn, textIn, settled, Settles, textBytes, textSpace, textDue}
+use Rattle.calls.specs.Decisions.{Decision, decide}
+use Rattle.calls.specs.Calls.{carriedOut, actsIn, settled, Settles, askCall}
 use Rattle.calls.specs.Asking.{Finishes}
 use Rattle.calls.proofs.FittingLaws.{decided-fits}
 use Rattle.calls.proofs.ActionLaws.{decided-of}
-use Rattle.calls.proofs.AskLaws.{text-same, settled-refused, settled-told, settled-stands}
-use Rattle.records.specs.Records.{recordSpace}
+use Rattle.calls.proofs.AskLaws.{settled-refused, settled-told, settled-stands, answers-refused, answers-finished}
+use Rattle.table.specs.Calls.{recordSpace}
 use Rattle.link.specs.declared.AskSent.{AskSent}
 use Rattle.link.specs.Steps.{Sendable, refusedAskSent, SendsAt}
-use Rattle.link.specs.Linked.{linkedAsk, LinkedAsks}
+use Rattle.link.specs.Linked.{LinkedAsks}
 use Rattle.link.proofs.SendingLaws.{left-number, sends-refused, sends-decided}
-use Rattle.link.proofs.LinkedLaws.{no-room, a-room}
-
--- ---- the checking order
-
-module _ (call : Call) (n : ℕ) (m s w : List ℕ) (d : Descriptor) (p cwd : List ℕ) (response : ℕ) where
-  pub ask-no-table : holds m ≡ false → linkedAsk call n m s w d p cwd response ≡ refused NoTable
-  unfolding linkedAsk andThen
-  ask-no-table h = rw (no-table m h)
-
-  module _ (h : holds m ≡ true) where
-    pub ask-no-space : length s < textBytes → linkedAsk call n m s w d p cwd response ≡ refused NoSpace
-    unfolding linkedAsk andThen textSpace firstCause unless
-    ask-no-space l = rw (a-table m h, lt-ltb _ _ l)
-
-    module _ (space : textBytes ≤ length s) where
-      pub ask-no-room : length w < recordSpace → linkedAsk call n m s w d p cwd response ≡ refused NoSpace
-      unfolding linkedAsk andThen textSpace firstCause unless
-      ask-no-room l = rw (a-table m h, le-ltb _ _ space, no-room w l)
-
-      module _ (room : recordSpace ≤ length w) where
-        pub ask-unknown : responseOf response ≡ Unknown → linkedAsk call n m s w d p cwd response ≡ refused refusal.Unknown
-        unfolding linkedAsk andThen textSpace firstCause unless knownResponse
-        ask-unknown u = rw (a-table m h, le-ltb _ _ space, a-room w room, u)
-
-        pub ask-known : (known : PromptResponse) → responseOf response ≡ Response known
-            → linkedAsk call n m s w d p cwd response ≡ settled call (After n) (tableOf m) d p cwd known
-        unfolding linkedAsk andThen textSpace firstCause unless knownResponse
-        ask-known known u = rw (a-table m h, le-ltb _ _ space, a-room w room, u)
 
 -- ---- a call that is refused
 
 module _ {call : Call} {n : ℕ} {m s w : List ℕ} {d : Descriptor} {p cwd : List ℕ} {response : ℕ} where
-  pub asks-refused : {cause : Refusal} {m′ : List ℕ} {r : AskSent} → linkedAsk call n m s w d p cwd response ≡ refused cause → r ≡ refusedAskSent cause → m′ ≡ m
+  pub asks-refused : {cause : Refusal} {m′ : List ℕ} {r : AskSent} → askCall call (linked n w) m s d p cwd response ≡ refused cause → r ≡ refusedAskSent cause → m′ ≡ m
       → LinkedAsks call m n s w d p cwd response m′ n s w r
-  unfolding answerIn askedIn textDue textIn begun
-  asks-refused e f q = rw (f, q) (record { answer = rw e; asked = rw e; size = rw e; space = rw e; sends = sends-refused e })
+  asks-refused e f q = rw (f, q) (record { answers = answers-refused e refl; sends = sends-refused e })
 
 -- ---- a call that is settled
 
@@ -92,7 +56,7 @@ carried-same n t made {decision} e = by (carryCause (After n) t (made .act)) ref
 module _ {call : Call} {n : ℕ} {m : List ℕ} {d : Descriptor} {p cwd : List ℕ} {known : PromptResponse} {z m′ z′ : List ℕ} {o : Settled}
     (S : Settles call (After n) m d p cwd known z m′ z′ o) where
   pub settled-stops : {s w : List ℕ} {response : ℕ} {cause : Refusal} {r : AskSent}
-      → linkedAsk call n m s w d p cwd response ≡ settled call (After n) (tableOf m) d p cwd known → o ≡ settled-as.Refused cause
+      → askCall call (linked n w) m s d p cwd response ≡ settled call (After n) (tableOf m) d p cwd known → o ≡ settled-as.Refused cause
       → r ≡ refusedAskSent cause → LinkedAsks call m n s w d p cwd response m′ n s w r
   unfolding actsIn doActs
   settled-stops e f g =
@@ -123,17 +87,10 @@ module _ {call : Call} {n : ℕ} {m : List ℕ} {d : Descriptor} {p cwd : List �
     })
 
     pub settled-sends : {s w : List ℕ} {response : ℕ} {s′ : List ℕ} {a : Asked} {n′ : ℕ} {w′ : List ℕ} {j : ℕ}
-        → linkedAsk call n m s w d p cwd response ≡ settled call (After n) (tableOf m) d p cwd known
+        → askCall call (linked n w) m s d p cwd response ≡ settled call (After n) (tableOf m) d p cwd known
         → Finishes state asked writes d p (take k z′) s s′ a → SendsAt (actOf action (take k z′)) n w 0 n′ w′ j
         → LinkedAsks call m n s w d p cwd response m′ n′ s′ w′ (record { answered = a; words = j })
-    unfolding answerIn askedIn textDue textIn
-    settled-sends e F A =
-        let T = settled-told S f in
-        let text = text-same (settled-stands S f) in
-        record {
-          answer = rw (e, T .is) (F .answer ∙ ap answer.State (T .state-is));
-          asked = rw (e, T .is) (F .told ∙ T .asked-is);
-          size = rw (e, T .is, ← T .writes-is, ← text) (F .size);
-          space = rw (e, T .is, ← T .writes-is, ← text) (F .space);
-          sends = rw e (sends-decided (T .is) (S .memory) (rw sent-decided at A));
-        }
+    settled-sends e F A = record {
+      answers = answers-finished e S f F;
+      sends = rw e (sends-decided (settled-told S f .is) (S .memory) (rw sent-decided at A));
+    }

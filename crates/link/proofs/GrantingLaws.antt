@@ -36,7 +36,7 @@ use Rattle.child.specs.Steps.{MakesChild}
 use Rattle.child.proofs.MakingLaws.{then-stops, then-goes, item-acts}
 use Rattle.child.proofs.ArgumentLaws.{known-drop}
 use Rattle.child.proofs.ItemLaws.{item-refused, item-made, Going, going-start, first-item, going-once, going-parent, going-child, left-parent, left-child, going-stops, going-next, going-done, all-inherited, all-refused, all-one}
-use Rattle.records.specs.Records.{recordSpace}
+use Rattle.table.specs.Calls.{recordSpace}
 use Rattle.link.specs.declared.ChildSent.{ChildSent}
 use Rattle.link.specs.Steps.{Records, SendsAt, childDone, childRefused, MakesSent, SendsItem}
 use Rattle.link.proofs.SendingLaws.{records-none, records-then}

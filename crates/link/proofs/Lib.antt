@@ -1,5 +1,5 @@
 pub mod SendingLaws
-pub mod LinkedLaws
+pub mod RevokeLaws
 pub mod AskLaws
 pub mod GrantingLaws
 pub mod ChildLaws

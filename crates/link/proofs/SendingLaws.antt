@@ -1,4 +1,4 @@
--- Laws of sending an act: with none nothing is sent, and else its record is the words of the one change; and what is sent by an act that was carried
+-- Laws of sending an act: room for its record; with none nothing is sent, and else its record is the words of the one change; and what is sent by an act that was carried
 -- out.
 use Prim.Native.Nat.{ℕ, suc, _+_, _≤_, _<_}
 use mathlib.Core.Path.{_≡_, refl, sym, ap, _∙_}
@@ -7,9 +7,9 @@ use mathlib.Core.Option.{Option, none, some}
 use mathlib.Core.Bool.{Bool, true, false, false≢true}
 use native.Mathlib.Omega.{arith}
 use lib.ListN.{length, length-append}
-use borrow.Author.Tests.{leb-false}
+use borrow.Author.Tests.{leb-false, lt-ltb, le-ltb}
 use Rattle.refusals.specs.declared.Refusal.{Refusal}
-use Rattle.refusals.specs.declared.Refusal.the-variants.{TableFull, NumbersUsedUp}
+use Rattle.refusals.specs.declared.Refusal.the-variants.{NoSpace, TableFull, NumbersUsedUp}
 use Rattle.refusals.specs.Refusals.{when, firstCause, Result, refused, ok, unless, causeOf}
 use Rattle.paths.specs.Copying.{begun, Appends}
 use Rattle.table.specs.declared.Numbering.the-variants.{After}
@@ -18,7 +18,7 @@ use Rattle.table.specs.declared.Outcome.the-variants.{Done, Refused}
 use Rattle.table.specs.Tables.{Table}
 use Rattle.table.specs.Acts.{Act, actOverflows}
 use Rattle.table.specs.Memory.{tableOf, doActs}
-use Rattle.table.specs.Carrying.{maxNumber, usedUp, carryCause, actsOf, outcomeOf, fits, CarriesOut}
+use Rattle.table.specs.Carrying.{linked, maxNumber, usedUp, carryCause, actsOf, outcomeOf, fits, CarriesOut}
 use Rattle.table.specs.Calls as table-calls
 use Rattle.table.proofs.Overwrites.{appends-none, appends-more, from-start}
 use Rattle.table.proofs.ActLaws.{carried-done, carried-refused}
@@ -32,7 +32,20 @@ use Rattle.records.proofs.RecordLaws.{few-words}
 use Rattle.link.specs.declared.Sent.{Sent}
 use Rattle.link.specs.Sending.{Sends}
 use Rattle.link.specs.Steps.{isNone, Records, SendsAt, refusedSent, Performs}
+use Rattle.table.specs.Calls.{recordSpace, atLeastOne, recordRoom}
+use Rattle.table.proofs.CallLaws.{room-short, room-long}
 use Rattle.link.specs.Linked.{LinkedDoes}
+
+-- ---- the record space of one record
+
+module _ (n : ℕ) (w : List ℕ) where
+  pub no-room : length w < recordSpace → recordRoom 1 (linked n w) ≡ refused NoSpace
+  unfolding atLeastOne
+  no-room h = room-short 1 n w (lt-ltb (length w) recordSpace h)
+
+  pub a-room : recordSpace ≤ length w → recordRoom 1 (linked n w) ≡ ok (After n)
+  unfolding atLeastOne
+  a-room h = room-long 1 n w (le-ltb (length w) recordSpace h)
 
 -- ---- acts in turn
 

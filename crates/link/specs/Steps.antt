@@ -14,13 +14,14 @@ use Rattle.table.specs.declared.Outcome.the-variants as outcome
 use Rattle.table.specs.Acts.{Act}
 use Rattle.table.specs.Memory.{tableOf}
 use Rattle.table.specs.Carrying.{maxNumber, carryCause, actsOf, outcomeOf, fits}
+use Rattle.table.specs.Calls.{recordSpace}
 use Rattle.walk.specs.declared.Answer.the-variants as answer
 use Rattle.calls.specs.declared.PromptResponse.{PromptResponse}
 use Rattle.calls.specs.Calls.{carriedOut, answerIn, actsIn, revokeDesc}
 use Rattle.child.specs.Arguments.{knownResponses, Item}
 use Rattle.child.specs.Making.{Made, itemStep, allItems}
 use Rattle.child.specs.Steps.{madeDone, madeRefused, Makes}
-use Rattle.records.specs.Records.{recordSpace, numbered, allWords}
+use Rattle.records.specs.Records.{numbered, allWords}
 use Rattle.link.specs.declared.Sent.{Sent}
 use Rattle.link.specs.declared.AskSent.{AskSent}
 use Rattle.link.specs.declared.RevokeSent.{RevokeSent}

@@ -15,8 +15,8 @@ use table::holding::holds_table;
 ghost use mathlib.Core.Path.{_≡_};
 ghost use Prim.Native.Nat.{_*_};
 ghost use lib.Dec.{ltb};
-ghost use Rattle.records.specs.Records.{recordSpace};
-ghost use Rattle.link.specs.Linked.{atLeastOne, LinkedChild};
+ghost use Rattle.table.specs.Calls.{recordSpace, atLeastOne};
+ghost use Rattle.link.specs.Linked.{LinkedChild};
 
 // Whether so many words are too few for the records of so many items.
 fn lacks_room(words: usize, items: usize) -> bool

@@ -22,9 +22,8 @@ ghost use lib.ListN.{length};
 ghost use Rattle.table.specs.Memory.{holds};
 ghost use Rattle.child.specs.Arguments.{listItems, itemsOf, areInOrder};
 ghost use Rattle.child.specs.Steps.{areResponses, Listed};
-ghost use Rattle.records.specs.Records.{recordSpace};
+ghost use Rattle.table.specs.Calls.{recordSpace, atLeastOne};
 ghost use Rattle.link.specs.Steps.{childDone, childRefused, SendsItem, SendsItems};
-ghost use Rattle.link.specs.Linked.{atLeastOne};
 
 // A call that is refused, with the words that stand there.
 pub(crate) fn refused(cause: Refusal, asked: usize, words: usize) -> ChildSent

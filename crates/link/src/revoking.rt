@@ -18,7 +18,7 @@ ghost use Prim.Native.Nat.{_≤_};
 ghost use lib.ListN.{length};
 ghost use Rattle.paths.specs.Giving.{isQuery, queryOf};
 ghost use Rattle.table.specs.Memory.{holds};
-ghost use Rattle.records.specs.Records.{recordSpace};
+ghost use Rattle.table.specs.Calls.{recordSpace};
 ghost use Rattle.link.specs.Steps.{refusedRevoke, PerformsRevoke};
 ghost use Rattle.link.specs.Linked.{LinkedRevokes};
 

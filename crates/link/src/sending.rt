@@ -12,7 +12,7 @@ ghost use Prim.Native.Nat.{ℕ, _≤_};
 ghost use lib.ListN.{length};
 ghost use Rattle.table.specs.Memory.{holds};
 ghost use Rattle.table.specs.Carrying.{actOf, fits};
-ghost use Rattle.records.specs.Records.{recordSpace};
+ghost use Rattle.table.specs.Calls.{recordSpace};
 ghost use Rattle.link.specs.Steps.{isNone, Sendable, SendsAt, Performs};
 
 // Whether there is no act.

@@ -17,9 +17,9 @@ use Rattle.table.specs.declared.Kind.{Kind}
 use Rattle.table.specs.declared.Kind.the-variants.{G, D, P, I}
 use Rattle.table.specs.Tables.{maxSwitches, isEntry}
 use Rattle.table.specs.Acts.{Act, insert, setSwitches, revoke, revokeAll, isAct}
+use Rattle.table.specs.Calls.{recordSpace}
 use Rattle.records.specs.Records.{
   Change,
-  recordSpace,
   headKind,
   lengthKind,
   switchesKind,

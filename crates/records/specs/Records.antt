@@ -19,10 +19,6 @@ pub record Change : Type 0 where
   pub number : ℕ
   pub act : Act
 
--- the words that the longest record takes, with a path of 1,024 bytes: `few-words`
-abbrev pub recordSpace : ℕ
-recordSpace = 344
-
 -- ---- words: the top four bits are the kind, and unused bits are zero
 
 abbrev pub headKind : ℕ

@@ -15,7 +15,8 @@ ghost use lib.ListN.{length, getD};
 ghost use Rattle.paths.specs.Copying.{Appends};
 ghost use Rattle.paths.specs.Resolving.{maxPath};
 ghost use Rattle.table.specs.Carrying.{maxNumber, actOf, fits};
-ghost use Rattle.records.specs.Records.{recordSpace, switchesKind, kindUnit, wordOf, insertNumber, headWord, pathWords, pathPart};
+ghost use Rattle.table.specs.Calls.{recordSpace};
+ghost use Rattle.records.specs.Records.{switchesKind, kindUnit, wordOf, insertNumber, headWord, pathWords, pathPart};
 ghost use Rattle.records.specs.Answers.{recordWords};
 ghost use Rattle.records.specs.Steps.{wordsFor};
 

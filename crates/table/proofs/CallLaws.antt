@@ -1,14 +1,15 @@
 -- Laws of the calls on a table: the steps of the checking order, and a call that is refused or carries its act out.
-use Prim.Native.Nat.{ℕ, _≤_, _<_}
-use mathlib.Core.Path.{_≡_, _∙_}
+use Prim.Native.Nat.{ℕ, _*_, _≤_, _<_}
+use mathlib.Core.Path.{_≡_, refl, _∙_}
 use mathlib.Core.List.{List, [], _∷_}
 use mathlib.Core.Option.{Option, none, some}
 use mathlib.Core.Bool.{true, false}
 use native.Mathlib.Omega.{arith}
 use lib.ListN.{length, set}
+use lib.Dec.{ltb}
 use borrow.Author.Tests.{lt-ltb, le-ltb}
 use Rattle.refusals.specs.declared.Refusal.{Refusal}
-use Rattle.refusals.specs.declared.Refusal.the-variants.{NoTable, Unknown}
+use Rattle.refusals.specs.declared.Refusal.the-variants.{NoTable, NoSpace, Unknown}
 use Rattle.refusals.specs.Refusals.{firstCause, Result, refused, ok, andThen, unless, causeOf}
 use Rattle.paths.specs.declared.Descriptor.the-variants.{Path}
 use Rattle.paths.specs.Copying.{overwrite}
@@ -16,16 +17,20 @@ use Rattle.paths.specs.Giving.{resolved, queryOf, given}
 use Rattle.table.specs.declared.Kind.{Kind}
 use Rattle.table.specs.declared.KindRead.the-variants as kind-read
 use Rattle.table.specs.declared.Numbering.{Numbering}
+use Rattle.table.specs.declared.Numbering.the-variants.{Plain, After}
 use Rattle.table.specs.declared.Outcome.{Outcome}
 use Rattle.table.specs.declared.Outcome.the-variants.{Done, Refused}
 use Rattle.table.specs.Entries.{kindOf, knownKind}
 use Rattle.table.specs.Tables.{fresh, maxSwitches}
 use Rattle.table.specs.Acts.{Act, insert, setSwitches}
 use Rattle.table.specs.Memory.{tableBytes, tableOf, holds, encode, encodeAll, put, doActs}
-use Rattle.table.specs.Carrying.{carryCause, actsOf, outcomeOf, CarriesOut}
+use Rattle.table.specs.Carrying.{Link, plain, linked, carryCause, actsOf, outcomeOf, CarriesOut}
 use Rattle.table.specs.Calls.{
   tableIn,
   freshIn,
+  recordSpace,
+  atLeastOne,
+  recordRoom,
   knownSwitches,
   carried,
   actsIn,
@@ -55,6 +60,20 @@ module _ (m : List ℕ) where
   pub fresh-long : tableBytes ≤ length m → freshIn m ≡ ok fresh
   unfolding freshIn firstCause unless
   fresh-long h = rw (le-ltb _ _ h)
+
+-- a plain call has nothing to test, and a linked one the length of its record space
+pub room-plain : (k : ℕ) → recordRoom k plain ≡ ok Plain
+unfolding recordRoom
+room-plain k = refl
+
+module _ (k n : ℕ) (w : List ℕ) where
+  pub room-short : ltb (length w) (recordSpace * atLeastOne k) ≡ true → recordRoom k (linked n w) ≡ refused NoSpace
+  unfolding recordRoom firstCause unless
+  room-short e = rw e
+
+  pub room-long : ltb (length w) (recordSpace * atLeastOne k) ≡ false → recordRoom k (linked n w) ≡ ok (After n)
+  unfolding recordRoom firstCause unless
+  room-long e = rw e
 
 -- ---- a call that makes one act
 
@@ -96,46 +115,58 @@ made-fresh {m} h M = M .memory ∙ rw (fresh-long m h)
 
 -- ---- switches
 
-module _ (numbers : Numbering) (m : List ℕ) (v : ℕ) where
-  pub switches-no-table : holds m ≡ false → switchesCall numbers m v ≡ refused NoTable
+module _ (link : Link) (m : List ℕ) (v : ℕ) where
+  pub switches-no-table : holds m ≡ false → switchesCall link m v ≡ refused NoTable
   unfolding switchesCall andThen
   switches-no-table h = rw (no-table m h)
 
-  pub switches-unknown : holds m ≡ true → maxSwitches < v → switchesCall numbers m v ≡ refused Unknown
-  unfolding switchesCall andThen knownSwitches firstCause unless
-  switches-unknown h l = rw (a-table m h, lt-ltb _ _ l)
+  module _ (h : holds m ≡ true) where
+    pub switches-no-room : recordRoom 1 link ≡ refused NoSpace → switchesCall link m v ≡ refused NoSpace
+    unfolding switchesCall andThen
+    switches-no-room e = rw (a-table m h, e)
 
-  pub switches-known : holds m ≡ true → v ≤ maxSwitches → switchesCall numbers m v ≡ carried numbers (tableOf m) (setSwitches v)
-  unfolding switchesCall andThen knownSwitches firstCause unless
-  switches-known h l = rw (a-table m h, le-ltb _ _ l)
+    module _ {numbers : Numbering} (room : recordRoom 1 link ≡ ok numbers) where
+      pub switches-unknown : maxSwitches < v → switchesCall link m v ≡ refused Unknown
+      unfolding switchesCall andThen knownSwitches firstCause unless
+      switches-unknown l = rw (a-table m h, room, lt-ltb _ _ l)
+
+      pub switches-known : v ≤ maxSwitches → switchesCall link m v ≡ carried numbers (tableOf m) (setSwitches v)
+      unfolding switchesCall andThen knownSwitches firstCause unless
+      switches-known l = rw (a-table m h, room, le-ltb _ _ l)
 
 -- ---- insert
 
-module _ (numbers : Numbering) (m : List ℕ) (kind : ℕ) (p cwd : List ℕ) where
-  pub insert-no-table : holds m ≡ false → insertCall numbers m kind p cwd ≡ refused NoTable
+module _ (link : Link) (m : List ℕ) (kind : ℕ) (p cwd : List ℕ) where
+  pub insert-no-table : holds m ≡ false → insertCall link m kind p cwd ≡ refused NoTable
   unfolding insertCall andThen
   insert-no-table h = rw (no-table m h)
 
-  pub insert-unknown : holds m ≡ true → kindOf kind ≡ kind-read.Unknown → insertCall numbers m kind p cwd ≡ refused Unknown
-  unfolding insertCall andThen knownKind
-  insert-unknown h e = rw (a-table m h, e)
+  module _ (h : holds m ≡ true) where
+    pub insert-no-room : recordRoom 1 link ≡ refused NoSpace → insertCall link m kind p cwd ≡ refused NoSpace
+    unfolding insertCall andThen
+    insert-no-room e = rw (a-table m h, e)
 
-  module _ (h : holds m ≡ true) {k : Kind} (e : kindOf kind ≡ kind-read.Kind k) where
-    pub insert-refused : {cause : Refusal} → given Path p cwd ≡ refused cause → insertCall numbers m kind p cwd ≡ refused cause
-    unfolding insertCall andThen knownKind given queryOf
-    insert-refused g = rw (a-table m h, e) (go (resolved p cwd) g)
-      where
-        go : {cause : Refusal} (r : Result (List ℕ)) → andThen r (λ q. ok (queryOf Path q)) ≡ refused cause
-            → andThen r (λ q. carried numbers (tableOf m) (insert (record { kind = k; path = q }))) ≡ refused cause
-        go (refused c) f = cc
-        go (ok q) f = let z : _≡_ {A = ℕ} 0 1 = cc in absurd (omega arith)
+    module _ {numbers : Numbering} (room : recordRoom 1 link ≡ ok numbers) where
+      pub insert-unknown : kindOf kind ≡ kind-read.Unknown → insertCall link m kind p cwd ≡ refused Unknown
+      unfolding insertCall andThen knownKind
+      insert-unknown e = rw (a-table m h, room, e)
 
-    pub insert-known : (q : List ℕ) → given Path p cwd ≡ ok (queryOf Path q)
-        → insertCall numbers m kind p cwd ≡ carried numbers (tableOf m) (insert (record { kind = k; path = q }))
-    unfolding insertCall andThen knownKind given queryOf
-    insert-known q g = rw (a-table m h, e) (go q (resolved p cwd) g)
-      where
-        go : (q : List ℕ) (r : Result (List ℕ)) → andThen r (λ q. ok (queryOf Path q)) ≡ ok (queryOf Path q)
-            → andThen r (λ q. carried numbers (tableOf m) (insert (record { kind = k; path = q }))) ≡ carried numbers (tableOf m) (insert (record { kind = k; path = q }))
-        go q (refused c) f = let z : _≡_ {A = ℕ} 0 1 = cc in absurd (omega arith)
-        go q (ok p) f = cc
+      module _ {k : Kind} (e : kindOf kind ≡ kind-read.Kind k) where
+        pub insert-refused : {cause : Refusal} → given Path p cwd ≡ refused cause → insertCall link m kind p cwd ≡ refused cause
+        unfolding insertCall andThen knownKind given queryOf
+        insert-refused g = rw (a-table m h, room, e) (go (resolved p cwd) g)
+          where
+            go : {cause : Refusal} (r : Result (List ℕ)) → andThen r (λ q. ok (queryOf Path q)) ≡ refused cause
+                → andThen r (λ q. carried numbers (tableOf m) (insert (record { kind = k; path = q }))) ≡ refused cause
+            go (refused c) f = cc
+            go (ok q) f = let z : _≡_ {A = ℕ} 0 1 = cc in absurd (omega arith)
+
+        pub insert-known : (q : List ℕ) → given Path p cwd ≡ ok (queryOf Path q)
+            → insertCall link m kind p cwd ≡ carried numbers (tableOf m) (insert (record { kind = k; path = q }))
+        unfolding insertCall andThen knownKind given queryOf
+        insert-known q g = rw (a-table m h, room, e) (go q (resolved p cwd) g)
+          where
+            go : (q : List ℕ) (r : Result (List ℕ)) → andThen r (λ q. ok (queryOf Path q)) ≡ ok (queryOf Path q)
+                → andThen r (λ q. carried numbers (tableOf m) (insert (record { kind = k; path = q }))) ≡ carried numbers (tableOf m) (insert (record { kind = k; path = q }))
+            go q (refused c) f = let z : _≡_ {A = ℕ} 0 1 = cc in absurd (omega arith)
+            go q (ok p) f = cc

@@ -23,8 +23,8 @@ use Rattle.table.specs.Placing.{place, placedAt}
 use Rattle.table.specs.Tables.{Table, has, hasFlagDenied, hasPromptDenied, hasFlagIgnored, isEntry, present, marksOf, isTable}
 use Rattle.table.specs.Acts.{Act, insert, setSwitches, revoke, revokeAll, revokedBy, inserted, insertedBy, isAct, applyAct, applyActs}
 use Rattle.table.specs.Memory.{tableOf, holds, doActs}
-use Rattle.table.specs.Carrying.{carryCause, actsOf, fits}
-use Rattle.table.specs.Calls.{tableIn, knownSwitches, carried, actsIn, switchesCall, insertCall, SetsSwitches, Inserts}
+use Rattle.table.specs.Carrying.{Link, carryCause, actsOf, fits}
+use Rattle.table.specs.Calls.{tableIn, recordRoom, knownSwitches, carried, actsIn, switchesCall, insertCall, SetsSwitches, Inserts}
 use Rattle.paths.proofs.ComponentLaws.{and-left}
 use Rattle.table.proofs.TableLaws.{any-more, marksBy, valid-parts}
 use Rattle.table.proofs.Puts.{valid-of}
@@ -112,23 +112,28 @@ switches-by v e =
     let b = unless-ok _ v e in
     rw (b .1) at (le-leb v _ (ltb-false _ _ (no-cause-head _ Unknown [] (b .0))))
 
-pub switches-acted : (numbers : Numbering) (m : List ℕ) (v : ℕ) → holds m ≡ true → Acted m (actsIn (switchesCall numbers m v))
+pub switches-acted : (link : Link) (m : List ℕ) (v : ℕ) → holds m ≡ true → Acted m (actsIn (switchesCall link m v))
 unfolding switchesCall
-switches-acted numbers m v h =
-    rw (a-table m h) (unfold andThen in step-acted actsIn no-acts m (knownSwitches v) _ h (λ k e. carried-acted numbers m (setSwitches k) h (switches-by v e)))
+switches-acted link m v h =
+    rw (a-table m h)
+    (unfold andThen in
+    step-acted actsIn no-acts m (recordRoom 1 link) _ h (λ numbers f.
+    step-acted actsIn no-acts m (knownSwitches v) _ h (λ k e.
+    carried-acted numbers m (setSwitches k) h (switches-by v e))))
 
 insert-fits : (k : Kind) (q : List ℕ) → isPath q ≡ true → isAct (insert (record { kind = k; path = q })) ≡ true
 unfolding isAct isEntry
 insert-fits k q e = e
 
-pub insert-acted : (numbers : Numbering) (m : List ℕ) (kind : ℕ) (p cwd : List ℕ) → holds m ≡ true → Acted m (actsIn (insertCall numbers m kind p cwd))
+pub insert-acted : (link : Link) (m : List ℕ) (kind : ℕ) (p cwd : List ℕ) → holds m ≡ true → Acted m (actsIn (insertCall link m kind p cwd))
 unfolding insertCall
-insert-acted numbers m kind p cwd h =
+insert-acted link m kind p cwd h =
     rw (a-table m h)
     (unfold andThen in
+    step-acted actsIn no-acts m (recordRoom 1 link) _ h (λ numbers g.
     step-acted actsIn no-acts m (knownKind (kindOf kind)) _ h (λ k e.
     step-acted actsIn no-acts m (resolved p cwd) _ h (λ q f.
-    carried-acted numbers m (insert (record { kind = k; path = q })) h (insert-fits k q (resolved-fits p cwd f)))))
+    carried-acted numbers m (insert (record { kind = k; path = q })) h (insert-fits k q (resolved-fits p cwd f))))))
 
 -- ---- by the promises
 
@@ -152,13 +157,13 @@ module _ (m n : List ℕ) (h : holds m ≡ true) (k : holds n ≡ true) (e : tab
   pub same-table : tableIn m ≡ tableIn n
   same-table = a-table m h ∙ ap ok e ∙ sym (a-table n k)
 
-  pub same-switches : (numbers : Numbering) (v : ℕ) → switchesCall numbers m v ≡ switchesCall numbers n v
+  pub same-switches : (link : Link) (v : ℕ) → switchesCall link m v ≡ switchesCall link n v
   unfolding switchesCall
-  same-switches numbers v = rw same-table
+  same-switches link v = rw same-table
 
-  pub same-insert : (numbers : Numbering) (kind : ℕ) (p cwd : List ℕ) → insertCall numbers m kind p cwd ≡ insertCall numbers n kind p cwd
+  pub same-insert : (link : Link) (kind : ℕ) (p cwd : List ℕ) → insertCall link m kind p cwd ≡ insertCall link n kind p cwd
   unfolding insertCall
-  same-insert numbers kind p cwd = rw same-table
+  same-insert link kind p cwd = rw same-table
 
   -- and the same acts leave the same table
   pub same-after : (acts : List Act) → Acted m acts → Acted n acts → tableOf (doActs m acts) ≡ tableOf (doActs n acts)

@@ -1,22 +1,23 @@
--- The calls on a table: for each its checking order, its answer, and the memory after it. Scope, "A call comes in".
-use Prim.Native.Nat.{ℕ}
+-- The calls on a table: for each its checking order, its answer, and the memory after it. A linked call is the same chain of steps, with the record
+-- space tested (2) and its act numbered (9); what it sends is said where the records are. Scope, "A call comes in".
+use Prim.Native.Nat.{ℕ, zero, suc, _*_}
 use mathlib.Core.Path.{_≡_}
 use mathlib.Core.List.{List, [], _∷_}
 use mathlib.Core.Option.{some}
 use mathlib.Core.Bool.{not}
 use lib.ListN.{length}
 use lib.Dec.{ltb}
-use Rattle.refusals.specs.declared.Refusal.the-variants.{NoTable, Unknown}
+use Rattle.refusals.specs.declared.Refusal.the-variants.{NoTable, NoSpace, Unknown}
 use Rattle.refusals.specs.Refusals.{when, firstCause, Result, refused, ok, andThen, unless, causeOf}
 use Rattle.paths.specs.Giving.{resolved}
 use Rattle.table.specs.declared.Numbering.{Numbering}
-use Rattle.table.specs.declared.Numbering.the-variants.{Plain}
+use Rattle.table.specs.declared.Numbering.the-variants.{Plain, After}
 use Rattle.table.specs.declared.Outcome.{Outcome}
 use Rattle.table.specs.Entries.{kindOf, knownKind}
 use Rattle.table.specs.Tables.{Table, fresh, maxSwitches}
 use Rattle.table.specs.Acts.{Act, insert, setSwitches}
 use Rattle.table.specs.Memory.{tableBytes, tableOf, holds, put, doActs}
-use Rattle.table.specs.Carrying.{carryCause, outcomeOf}
+use Rattle.table.specs.Carrying.{Link, plain, linked, carryCause, outcomeOf}
 
 -- ---- steps of the checking order
 
@@ -27,6 +28,19 @@ tableIn m = unless (firstCause (when (not (holds m)) NoTable ∷ [])) (tableOf m
 -- 1: memory about to get a fresh or child table need only be large enough
 unfoldable pub freshIn : List ℕ → Result Table
 freshIn m = unless (firstCause (when (ltb (length m) tableBytes) NoTable ∷ [])) fresh
+
+-- 2: the record space of a linked call, 344 words for each of its k items and at least 344; its acts are numbered on from the lent number. The longest
+-- record takes so many words: `few-words`
+abbrev pub recordSpace : ℕ
+recordSpace = 344
+
+unfoldable pub atLeastOne : ℕ → ℕ
+atLeastOne zero = 1
+atLeastOne (suc k) = suc k
+
+unfoldable pub recordRoom : ℕ → Link → Result Numbering
+recordRoom k plain = ok Plain
+recordRoom k (linked n w) = unless (firstCause (when (ltb (length w) (recordSpace * atLeastOne k)) NoSpace ∷ [])) (After n)
 
 -- 3: known switches
 unfoldable pub knownSwitches : ℕ → Result ℕ
@@ -58,20 +72,27 @@ pub record MakesFresh (m m′ : List ℕ) (r : Outcome) : Type 0 where
 
 -- ---- switches
 
-unfoldable pub switchesCall : Numbering → List ℕ → ℕ → Result Act
-switchesCall numbers m v = andThen (tableIn m) (λ t. andThen (knownSwitches v) (λ k. carried numbers t (setSwitches k)))
+-- 1, 2, 3, 9
+unfoldable pub switchesCall : Link → List ℕ → ℕ → Result Act
+switchesCall link m v =
+    andThen (tableIn m) (λ t.
+    andThen (recordRoom 1 link) (λ numbers.
+    andThen (knownSwitches v) (λ k.
+    carried numbers t (setSwitches k))))
 
 abbrev pub SetsSwitches : List ℕ → ℕ → List ℕ → Outcome → Type 0
-SetsSwitches m v m′ r = Does (switchesCall Plain m v) m m′ r
+SetsSwitches m v m′ r = Does (switchesCall plain m v) m m′ r
 
 -- ---- insert
 
-unfoldable pub insertCall : Numbering → List ℕ → ℕ → List ℕ → List ℕ → Result Act
-insertCall numbers m kind p cwd =
+-- 1, 2, 3, 4 to 7, 8, 9
+unfoldable pub insertCall : Link → List ℕ → ℕ → List ℕ → List ℕ → Result Act
+insertCall link m kind p cwd =
     andThen (tableIn m) (λ t.
+    andThen (recordRoom 1 link) (λ numbers.
     andThen (knownKind (kindOf kind)) (λ k.
     andThen (resolved p cwd) (λ q.
-    carried numbers t (insert (record { kind = k; path = q })))))
+    carried numbers t (insert (record { kind = k; path = q }))))))
 
 abbrev pub Inserts : List ℕ → ℕ → List ℕ → List ℕ → List ℕ → Outcome → Type 0
-Inserts m kind p cwd m′ r = Does (insertCall Plain m kind p cwd) m m′ r
+Inserts m kind p cwd m′ r = Does (insertCall plain m kind p cwd) m m′ r

@@ -19,7 +19,13 @@ use Rattle.table.specs.Tables.{Table}
 use Rattle.table.specs.Acts.{Act, insert, setSwitches, revoke, revokeAll, isAct, actOverflows}
 use Rattle.table.specs.Memory.{tableOf, doActs}
 
--- ---- numbers: a plain call numbers no act; a linked one is lent the main's last number
+-- ---- the link: a plain call is lent nothing of it, and a linked one the main's last number and the record space
+
+pub data Link : Type 0 where
+  plain : Link
+  linked : ℕ → List ℕ → Link
+
+-- ---- numbers: a plain call numbers no act
 
 abbrev pub maxNumber : ℕ
 maxNumber = 16777215

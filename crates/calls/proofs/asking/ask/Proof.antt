@@ -2,6 +2,7 @@
 use mathlib.Core.Path.{refl, sym, _∙_}
 use native.Mathlib.Omega.{arith}
 use borrow.Author.Tests.{not-true, not-false}
+use Rattle.table.proofs.CallLaws.{room-plain}
 use Rattle.calls.proofs.AskLaws.{
   ask-no-table,
   ask-no-space,
@@ -58,7 +59,7 @@ returns-3 : tie.Need-returns-3
 returns-3 c =
     let tested = c .before .before .before .before in
     let held = sym (tested .before .before .holds-table .ensures) ∙ not-false _ (tested .before .if1 .left) in
-    asks-refused (ask-unknown _ _ _ _ _ _ _ _ held (omega arith) (sym (c .before .before .before .response-of .ensures) ∙ c .before .enum-told .given .1)) (c .refused3 .ensures) refl
+    asks-refused (ask-unknown _ _ _ _ _ _ _ _ held (omega arith) (room-plain 1) (sym (c .before .before .before .response-of .ensures) ∙ c .before .enum-told .given .1)) (c .refused3 .ensures) refl
 
 settle-requires : tie.Need-settle-requires
 settle-requires c κs = sym (c .before .before .before .before .before .before .before .before .holds-table .ensures) ∙ not-false _ (c .before .before .before .before .before .before .before .if1 .left)
@@ -83,7 +84,7 @@ returns-4 c =
     let known = c .before .before .before .before .before .before .before .before .before .before in
     let tested = known .before .before .before in
     let held = sym (tested .before .before .holds-table .ensures) ∙ not-false _ (tested .before .if1 .left) in
-    asks-stopped (ask-known _ _ _ _ _ _ _ _ held (omega arith) _ (sym (known .before .before .response-of .ensures) ∙ known .known .given .1))
+    asks-stopped (ask-known _ _ _ _ _ _ _ _ held (omega arith) (room-plain 1) _ (sym (known .before .before .response-of .ensures) ∙ known .known .given .1))
     (c .before .before .before .before .before .before .settle .ensures) (c .before .before .cause .given .1) (c .refused4 .ensures)
 
 same-length-5 : tie.Need-same-length-5
@@ -97,7 +98,7 @@ returns-5 c =
     let known = c .before .before .before .before .before .before .before .before .before .before .before .before .before .before in
     let tested = known .before .before .before in
     let held = sym (tested .before .before .holds-table .ensures) ∙ not-false _ (tested .before .if1 .left) in
-    asks-finished (ask-known _ _ _ _ _ _ _ _ held (omega arith) _ (sym (known .before .before .response-of .ensures) ∙ known .known .given .1))
+    asks-finished (ask-known _ _ _ _ _ _ _ _ held (omega arith) (room-plain 1) _ (sym (known .before .before .response-of .ensures) ∙ known .known .given .1))
     (c .before .before .before .before .before .before .before .before .before .before .settle .ensures) (c .before .before .before .before .before .before .state .given .1) (c .before .before .finish .ensures)
 
 pub ask-spec : {M : Type 1} → statement M

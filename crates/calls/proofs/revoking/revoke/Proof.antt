@@ -2,8 +2,9 @@
 use mathlib.Core.Path.{sym, _∙_}
 use borrow.Author.Tests.{not-true, not-false}
 use lib.Seq.{length-take-le}
-use Rattle.paths.proofs.GivingLaws.{gives-stands}
-use Rattle.calls.proofs.AskLaws.{revokes-no-table, revokes-refused, revokes-query}
+use Rattle.paths.proofs.GivingLaws.{gives-refused, gives-stands}
+use Rattle.table.proofs.CallLaws.{room-plain}
+use Rattle.calls.proofs.AskLaws.{revoke-no-table, revoke-ungiven, revoke-given, revokes-refused, revokes-query}
 use borrow.Author.Needs.{needs}
 use Rattle.calls.proofs.revoking.revoke.Statement.{statement}
 use Rattle.calls.proofs.revoking.revoke.Tie as tie
@@ -15,7 +16,7 @@ same-length : tie.Need-same-length
 same-length c = search needs
 
 returns : tie.Need-returns
-returns c = revokes-no-table (sym (c .before .holds-table .ensures) ∙ not-true _ (c .if1 .taken))
+returns c = revokes-refused (revoke-no-table _ _ _ _ _ (sym (c .before .holds-table .ensures) ∙ not-true _ (c .if1 .taken)))
 
 resolve-given-requires : tie.Need-resolve-given-requires
 resolve-given-requires c κs = search needs
@@ -41,7 +42,11 @@ same-length-2 c = search needs
 
 returns-2 : tie.Need-returns-2
 returns-2 c =
-    revokes-refused (sym (c .before .before .before .before .before .before .holds-table .ensures) ∙ not-false _ (c .before .before .before .before .before .if1 .left)) (c .before .before .before .resolve-given .ensures) (c .before .cause .given .1)
+    let asked = c .before .before .before in
+    let held = asked .before .before in
+    revokes-refused
+    (revoke-ungiven _ _ _ _ _ (sym (held .before .holds-table .ensures) ∙ not-false _ (held .if1 .left)) (room-plain 1)
+    (gives-refused (asked .resolve-given .ensures) (c .before .cause .given .1)))
 
 same-length-3 : tie.Need-same-length-3
 same-length-3 c = search needs
@@ -50,7 +55,9 @@ returns-3 : tie.Need-returns-3
 returns-3 c =
     let asked = c .before .before .before .before .before .before .before .before in
     let held = asked .before .before in
-    revokes-query (sym (held .before .holds-table .ensures) ∙ not-false _ (held .if1 .left)) (asked .resolve-given .ensures) (c .before .before .before .before .before .before .n .given .1)
+    revokes-query
+    (revoke-given _ _ _ _ _ (sym (held .before .holds-table .ensures) ∙ not-false _ (held .if1 .left)) (room-plain 1) _
+    (gives-stands (asked .resolve-given .ensures) (c .before .before .before .before .before .before .n .given .1) .query))
     (c .before .before .revoke-query .ensures)
 
 pub revoke-spec : {M : Type 1} → statement M

@@ -4,6 +4,7 @@ use native.Mathlib.Omega.{arith}
 use borrow.Author.Tests.{not-true, not-false}
 use Rattle.table.specs.declared.Numbering.the-variants.{Plain}
 use Rattle.child.proofs.ArgumentLaws.{all-known, no-arg, no-responses, no-order}
+use Rattle.table.proofs.CallLaws.{room-plain}
 use Rattle.child.proofs.CreatingLaws.{
   first-held,
   child-no-table,
@@ -29,7 +30,7 @@ same-length : tie.Need-same-length
 same-length c = search needs
 
 returns : tie.Need-returns
-returns c = creates-refused (child-no-table _ _ _ _ _ _ _ (sym (c .before .before .holds-table .ensures) ∙ not-true _ (c .before .if1 .taken))) (c .refused .ensures)
+returns c = creates-refused (child-no-table _ _ _ _ _ _ _ _ (sym (c .before .before .holds-table .ensures) ∙ not-true _ (c .before .if1 .taken))) (c .refused .ensures)
 
 refused-requires-2 : tie.Need-refused-requires-2
 refused-requires-2 c κs = search needs
@@ -39,7 +40,7 @@ same-length-2 c = search needs
 
 returns-2 : tie.Need-returns-2
 returns-2 c =
-    creates-refused (child-small _ _ _ _ _ _ _ (sym (c .before .before .before .holds-table .ensures) ∙ not-false _ (c .before .before .if1 .left)) (omega arith)) (c .refused2 .ensures)
+    creates-refused (child-small _ _ _ _ _ _ _ _ (sym (c .before .before .before .holds-table .ensures) ∙ not-false _ (c .before .before .if1 .left)) (omega arith)) (c .refused2 .ensures)
 
 arg-of-requires : tie.Need-arg-of-requires
 arg-of-requires c κs = search needs
@@ -61,7 +62,7 @@ returns-3 c =
     let read = c .before in
     let held = read .before .before .before .before in
     let table = sym (held .before .holds-table .ensures) ∙ not-false _ (held .if1 .left) in
-    creates-refused (child-unknown _ _ _ _ _ _ _ table (omega arith) (no-arg _ _ _ _ (sym (read .before .before .arg-of .ensures) ∙ read .enum-told .given .1))) (c .refused3 .ensures)
+    creates-refused (child-unknown _ _ _ _ _ _ _ _ table (omega arith) (room-plain _) (no-arg _ _ _ _ (sym (read .before .before .arg-of .ensures) ∙ read .enum-told .given .1))) (c .refused3 .ensures)
 
 are-responses-requires : tie.Need-are-responses-requires
 are-responses-requires c κs = search needs
@@ -80,7 +81,7 @@ returns-4 c =
     let table = sym (held .before .holds-table .ensures) ∙ not-false _ (held .if1 .left) in
     let arg = sym (read .before .before .arg-of .ensures) ∙ read .arg .given .1 in
     creates-refused
-    (child-unknown _ _ _ _ _ _ _ table (omega arith) (no-responses _ _ _ _ arg (sym (answered .before .are-responses .ensures) ∙ not-true _ (answered .if3 .taken))))
+    (child-unknown _ _ _ _ _ _ _ _ table (omega arith) (room-plain _) (no-responses _ _ _ _ arg (sym (answered .before .are-responses .ensures) ∙ not-true _ (answered .if3 .taken))))
     (c .refused4 .ensures)
 
 are-in-order-requires : tie.Need-are-in-order-requires
@@ -102,7 +103,7 @@ returns-5 c =
     let arg = sym (read .before .before .arg-of .ensures) ∙ read .arg .given .1 in
     let known = all-known _ (sym (answered .before .are-responses .ensures) ∙ not-false _ (answered .if3 .left)) in
     creates-refused
-    (child-unknown _ _ _ _ _ _ _ table (omega arith) (no-order _ _ _ _ arg (known .are) (sym (ordered .before .are-in-order .ensures) ∙ not-true _ (ordered .if4 .taken))))
+    (child-unknown _ _ _ _ _ _ _ _ table (omega arith) (room-plain _) (no-order _ _ _ _ arg (known .are) (sym (ordered .before .are-in-order .ensures) ∙ not-true _ (ordered .if4 .taken))))
     (c .refused5 .ensures)
 
 begin-requires : tie.Need-begin-requires

@@ -3,18 +3,9 @@ use mathlib.Core.Path.{refl, sym, _∙_}
 use native.Mathlib.Omega.{arith}
 use borrow.Author.Tests.{not-true, not-false}
 use lib.Seq.{length-take-le}
-use Rattle.calls.proofs.AskLaws.{settled-stands, text-room}
-use Rattle.link.proofs.AskLaws.{
-  ask-no-table,
-  ask-no-space,
-  ask-no-room,
-  ask-unknown,
-  ask-known,
-  asks-refused,
-  settled-stops,
-  ask-sendable,
-  settled-sends,
-}
+use Rattle.calls.proofs.AskLaws.{ask-no-table, ask-no-space, ask-no-room, ask-unknown, ask-known, settled-stands, text-room}
+use Rattle.link.proofs.SendingLaws.{no-room, a-room}
+use Rattle.link.proofs.AskLaws.{asks-refused, settled-stops, ask-sendable, settled-sends}
 use borrow.Author.Needs.{needs}
 use Rattle.link.proofs.asking.ask.Statement.{statement}
 use Rattle.link.proofs.asking.ask.Tie as tie
@@ -29,7 +20,7 @@ same-length : tie.Need-same-length
 same-length c = search needs
 
 returns : tie.Need-returns
-returns c = asks-refused (ask-no-table _ _ _ _ _ _ _ _ _ (sym (c .before .before .holds-table .ensures) ∙ not-true _ (c .before .if1 .taken))) (c .refused .ensures) refl
+returns c = asks-refused (ask-no-table _ _ _ _ _ _ _ _ (sym (c .before .before .holds-table .ensures) ∙ not-true _ (c .before .if1 .taken))) (c .refused .ensures) refl
 
 refused-requires-2 : tie.Need-refused-requires-2
 refused-requires-2 c κs = search needs
@@ -38,7 +29,7 @@ same-length-2 : tie.Need-same-length-2
 same-length-2 c = search needs
 
 returns-2 : tie.Need-returns-2
-returns-2 c = asks-refused (ask-no-space _ _ _ _ _ _ _ _ _ (sym (c .before .before .before .holds-table .ensures) ∙ not-false _ (c .before .before .if1 .left)) (omega arith)) (c .refused2 .ensures) refl
+returns-2 c = asks-refused (ask-no-space _ _ _ _ _ _ _ _ (sym (c .before .before .before .holds-table .ensures) ∙ not-false _ (c .before .before .if1 .left)) (omega arith)) (c .refused2 .ensures) refl
 
 refused-requires-3 : tie.Need-refused-requires-3
 refused-requires-3 c κs = search needs
@@ -50,7 +41,7 @@ returns-3 : tie.Need-returns-3
 returns-3 c =
     let tested = c .before .before .before in
     let held = sym (tested .before .holds-table .ensures) ∙ not-false _ (tested .if1 .left) in
-    asks-refused (ask-no-room _ _ _ _ _ _ _ _ _ held (omega arith) (omega arith)) (c .refused3 .ensures) refl
+    asks-refused (ask-no-room _ _ _ _ _ _ _ _ held (omega arith) (no-room _ _ (omega arith))) (c .refused3 .ensures) refl
 
 response-of-requires : tie.Need-response-of-requires
 response-of-requires c κs = search needs
@@ -72,7 +63,7 @@ returns-4 c =
     let tested = c .before .before .before .before .before .before in
     let held = sym (tested .before .holds-table .ensures) ∙ not-false _ (tested .if1 .left) in
     let unknown = sym (c .before .before .before .response-of .ensures) ∙ c .before .enum-told .given .1 in
-    asks-refused (ask-unknown _ _ _ _ _ _ _ _ _ held (omega arith) (omega arith) unknown) (c .refused4 .ensures) refl
+    asks-refused (ask-unknown _ _ _ _ _ _ _ _ held (omega arith) (a-room _ _ (omega arith)) unknown) (c .refused4 .ensures) refl
 
 settle-requires : tie.Need-settle-requires
 settle-requires c κs = let tested = c .before .before .before .before .before .before .before .before .before in sym (tested .before .holds-table .ensures) ∙ not-false _ (tested .if1 .left)
@@ -114,7 +105,7 @@ returns-5 c =
     let tested = known .before .before .before .before .before in
     let held = sym (tested .before .holds-table .ensures) ∙ not-false _ (tested .if1 .left) in
     let read = sym (known .before .before .response-of .ensures) ∙ known .known .given .1 in
-    settled-stops (c .before .before .before .before .before .before .settle .ensures) (ask-known _ _ _ _ _ _ _ _ _ held (omega arith) (omega arith) _ read)
+    settled-stops (c .before .before .before .before .before .before .settle .ensures) (ask-known _ _ _ _ _ _ _ _ held (omega arith) (a-room _ _ (omega arith)) _ read)
     (c .before .before .cause .given .1) (c .refused5 .ensures)
 
 same-length-6 : tie.Need-same-length-6
@@ -134,7 +125,7 @@ returns-6 c =
     let held = sym (tested .before .holds-table .ensures) ∙ not-false _ (tested .if1 .left) in
     let read = sym (known .before .before .response-of .ensures) ∙ known .known .given .1 in
     settled-sends (decided .before .before .before .before .settle .ensures) (decided .state .given .1)
-    (ask-known _ _ _ _ _ _ _ _ _ held (omega (arith, known .before .before .before .before .if2 .left)) (omega (arith, known .before .before .before .if3 .left)) _ read)
+    (ask-known _ _ _ _ _ _ _ _ held (omega (arith, known .before .before .before .before .if2 .left)) (a-room _ _ (omega (arith, known .before .before .before .if3 .left))) _ read)
     (c .before .before .finish .ensures) (c .before .before .before .before .before .before .before .send-at .ensures)
 
 pub ask-spec : {M : Type 1} → statement M

@@ -5,16 +5,9 @@ use native.Mathlib.Omega.{arith}
 use borrow.Author.Tests.{not-true, not-false}
 use Rattle.table.specs.declared.Numbering.the-variants.{After}
 use Rattle.child.proofs.ArgumentLaws.{all-known, no-arg, no-responses, no-order}
-use Rattle.child.proofs.CreatingLaws.{first-held, ran, items-parent, items-child}
-use Rattle.link.proofs.ChildLaws.{
-  has-room,
-  child-no-table,
-  child-small,
-  child-no-room,
-  child-unknown,
-  child-refused,
-  child-sends,
-}
+use Rattle.table.proofs.CallLaws.{room-short, room-long}
+use Rattle.child.proofs.CreatingLaws.{first-held, child-no-table, child-small, child-no-room, child-unknown, ran, items-parent, items-child}
+use Rattle.link.proofs.ChildLaws.{has-room, child-refused, child-sends}
 use borrow.Author.Needs.{needs}
 use Rattle.link.proofs.creating.create_child_permissions.Statement.{statement}
 use Rattle.link.proofs.creating.create_child_permissions.Tie as tie
@@ -29,7 +22,7 @@ same-length : tie.Need-same-length
 same-length c = search needs
 
 returns : tie.Need-returns
-returns c = child-refused (child-no-table _ _ _ _ _ _ _ _ _ (sym (c .before .before .holds-table .ensures) ∙ not-true _ (c .before .if1 .taken))) (c .refused .ensures)
+returns c = child-refused (child-no-table _ _ _ _ _ _ _ _ (sym (c .before .before .holds-table .ensures) ∙ not-true _ (c .before .if1 .taken))) (c .refused .ensures)
 
 refused-requires-2 : tie.Need-refused-requires-2
 refused-requires-2 c κs = search needs
@@ -38,7 +31,7 @@ same-length-2 : tie.Need-same-length-2
 same-length-2 c = search needs
 
 returns-2 : tie.Need-returns-2
-returns-2 c = child-refused (child-small _ _ _ _ _ _ _ _ _ (sym (c .before .before .before .holds-table .ensures) ∙ not-false _ (c .before .before .if1 .left)) (omega arith)) (c .refused2 .ensures)
+returns-2 c = child-refused (child-small _ _ _ _ _ _ _ _ (sym (c .before .before .before .holds-table .ensures) ∙ not-false _ (c .before .before .if1 .left)) (omega arith)) (c .refused2 .ensures)
 
 lacks-room-requires : tie.Need-lacks-room-requires
 lacks-room-requires c κs = search needs
@@ -50,7 +43,7 @@ same-length-3 : tie.Need-same-length-3
 same-length-3 c = search needs
 
 returns-3 : tie.Need-returns-3
-returns-3 c = child-refused (child-no-room _ _ _ _ _ _ _ _ _ (sym (c .before .before .before .before .before .holds-table .ensures) ∙ not-false _ (c .before .before .before .before .if1 .left)) (omega (arith, c .before .before .before .if2 .left)) (sym (c .before .before .lacks-room .ensures) ∙ c .before .if3 .taken)) (c .refused3 .ensures)
+returns-3 c = child-refused (child-no-room _ _ _ _ _ _ _ _ (sym (c .before .before .before .before .before .holds-table .ensures) ∙ not-false _ (c .before .before .before .before .if1 .left)) (omega (arith, c .before .before .before .if2 .left)) (room-short _ _ _ (sym (c .before .before .lacks-room .ensures) ∙ c .before .if3 .taken))) (c .refused3 .ensures)
 
 arg-of-requires : tie.Need-arg-of-requires
 arg-of-requires c κs = search needs
@@ -71,7 +64,7 @@ returns-4 : tie.Need-returns-4
 returns-4 c =
     let table = sym (c .before .before .before .before .before .before .before .before .holds-table .ensures) ∙ not-false _ (c .before .before .before .before .before .before .before .if1 .left) in
     let room = sym (c .before .before .before .before .before .lacks-room .ensures) ∙ c .before .before .before .before .if3 .left in
-    child-refused (child-unknown _ _ _ _ _ _ _ _ _ table (omega (arith, c .before .before .before .before .before .before .if2 .left)) room (no-arg _ _ _ _ (sym (c .before .before .before .arg-of .ensures) ∙ c .before .enum-told .given .1))) (c .refused4 .ensures)
+    child-refused (child-unknown _ _ _ _ _ _ _ _ table (omega (arith, c .before .before .before .before .before .before .if2 .left)) (room-long _ _ _ room) (no-arg _ _ _ _ (sym (c .before .before .before .arg-of .ensures) ∙ c .before .enum-told .given .1))) (c .refused4 .ensures)
 
 are-responses-requires : tie.Need-are-responses-requires
 are-responses-requires c κs = search needs
@@ -87,7 +80,7 @@ returns-5 c =
     let table = sym (c .before .before .before .before .before .before .before .before .before .before .before .holds-table .ensures) ∙ not-false _ (c .before .before .before .before .before .before .before .before .before .before .if1 .left) in
     let room = sym (c .before .before .before .before .before .before .before .before .lacks-room .ensures) ∙ c .before .before .before .before .before .before .before .if3 .left in
     let arg = sym (c .before .before .before .before .before .before .arg-of .ensures) ∙ c .before .before .before .before .arg .given .1 in
-    child-refused (child-unknown _ _ _ _ _ _ _ _ _ table (omega (arith, c .before .before .before .before .before .before .before .before .before .if2 .left)) room (no-responses _ _ _ _ arg (sym (c .before .before .are-responses .ensures) ∙ not-true _ (c .before .if4 .taken)))) (c .refused5 .ensures)
+    child-refused (child-unknown _ _ _ _ _ _ _ _ table (omega (arith, c .before .before .before .before .before .before .before .before .before .if2 .left)) (room-long _ _ _ room) (no-responses _ _ _ _ arg (sym (c .before .before .are-responses .ensures) ∙ not-true _ (c .before .if4 .taken)))) (c .refused5 .ensures)
 
 are-in-order-requires : tie.Need-are-in-order-requires
 are-in-order-requires c κs = search needs
@@ -104,7 +97,7 @@ returns-6 c =
     let room = sym (c .before .before .before .before .before .before .before .before .before .before .lacks-room .ensures) ∙ c .before .before .before .before .before .before .before .before .before .if3 .left in
     let arg = sym (c .before .before .before .before .before .before .before .before .arg-of .ensures) ∙ c .before .before .before .before .before .before .arg .given .1 in
     let known = all-known _ (sym (c .before .before .before .before .are-responses .ensures) ∙ not-false _ (c .before .before .before .if4 .left)) in
-    child-refused (child-unknown _ _ _ _ _ _ _ _ _ table (omega (arith, c .before .before .before .before .before .before .before .before .before .before .before .if2 .left)) room (no-order _ _ _ _ arg (known .are) (sym (c .before .before .are-in-order .ensures) ∙ not-true _ (c .before .if5 .taken)))) (c .refused6 .ensures)
+    child-refused (child-unknown _ _ _ _ _ _ _ _ table (omega (arith, c .before .before .before .before .before .before .before .before .before .before .before .if2 .left)) (room-long _ _ _ room) (no-order _ _ _ _ arg (known .are) (sym (c .before .before .are-in-order .ensures) ∙ not-true _ (c .before .if5 .taken)))) (c .refused6 .ensures)
 
 begin-requires : tie.Need-begin-requires
 begin-requires c κs = (sym (c .before .before .before .before .before .before .before .before .before .before .before .before .before .before .holds-table .ensures) ∙ not-false _ (c .before .before .before .before .before .before .before .before .before .before .before .before .before .if1 .left), omega (arith, c .before .before .before .before .before .before .before .before .before .before .before .before .if2 .left))

@@ -3,8 +3,7 @@ use Prim.Native.Nat.{_*_}
 use mathlib.Core.Path.{sym}
 use native.Mathlib.Omega.{arith}
 use borrow.Author.Tests.{lt-ltb, le-ltb}
-use Rattle.records.specs.Records.{recordSpace}
-use Rattle.link.specs.Linked.{atLeastOne}
+use Rattle.table.specs.Calls.{recordSpace, atLeastOne}
 use Rattle.link.proofs.ChildLaws.{least-one, least-many, least-few}
 use Rattle.link.proofs.creating.lacks_room.Statement.{statement}
 use Rattle.link.proofs.creating.lacks_room.Tie as tie

@@ -8,8 +8,8 @@ use Rattle.paths.proofs.GivingLaws.{gives-refused, gives-stands}
 use Rattle.table.specs.Tables.{isEntry}
 use Rattle.table.specs.Acts.{isAct}
 use Rattle.table.specs.Carrying.{actOf, fits}
-use Rattle.link.proofs.SendingLaws.{does-refuse, does-perform}
-use Rattle.link.proofs.LinkedLaws.{insert-no-table, insert-no-room, insert-unknown, insert-refused, insert-known}
+use Rattle.link.proofs.SendingLaws.{no-room, a-room, does-refuse, does-perform}
+use Rattle.table.proofs.CallLaws.{insert-no-table, insert-no-room, insert-unknown, insert-refused, insert-known}
 use borrow.Author.Needs.{needs}
 use Rattle.link.proofs.inserting.insert.Statement.{statement}
 use Rattle.link.proofs.inserting.insert.Tie as tie
@@ -24,7 +24,7 @@ same-length : tie.Need-same-length
 same-length c = search needs
 
 returns : tie.Need-returns
-returns c = does-refuse (insert-no-table _ _ _ _ _ _ (sym (c .before .before .holds-table .ensures) ∙ not-true _ (c .before .if1 .taken))) (c .refused .ensures)
+returns c = does-refuse (insert-no-table _ _ _ _ _ (sym (c .before .before .holds-table .ensures) ∙ not-true _ (c .before .if1 .taken))) (c .refused .ensures)
 
 refused-requires-2 : tie.Need-refused-requires-2
 refused-requires-2 c κs = search needs
@@ -33,7 +33,7 @@ same-length-2 : tie.Need-same-length-2
 same-length-2 c = search needs
 
 returns-2 : tie.Need-returns-2
-returns-2 c = does-refuse (insert-no-room _ _ _ _ _ _ (sym (c .before .before .before .holds-table .ensures) ∙ not-false _ (c .before .before .if1 .left)) (omega arith)) (c .refused2 .ensures)
+returns-2 c = does-refuse (insert-no-room _ _ _ _ _ (sym (c .before .before .before .holds-table .ensures) ∙ not-false _ (c .before .before .if1 .left)) (no-room _ _ (omega arith))) (c .refused2 .ensures)
 
 kind-of-requires : tie.Need-kind-of-requires
 kind-of-requires c κs = search needs
@@ -55,7 +55,7 @@ returns-3 c =
     let tested = c .before .before .before .before .before in
     let held = sym (tested .before .holds-table .ensures) ∙ not-false _ (tested .if1 .left) in
     let unknown = sym (c .before .before .before .kind-of .ensures) ∙ c .before .enum-told .given .1 in
-    does-refuse (insert-unknown _ _ _ _ _ _ held (omega arith) unknown) (c .refused3 .ensures)
+    does-refuse (insert-unknown _ _ _ _ _ held (a-room _ _ (omega arith)) unknown) (c .refused3 .ensures)
 
 resolve-given-requires : tie.Need-resolve-given-requires
 resolve-given-requires c κs = search needs
@@ -93,7 +93,7 @@ returns-4 c =
     let held = sym (tested .before .holds-table .ensures) ∙ not-false _ (tested .if1 .left) in
     let read = sym (known .before .before .kind-of .ensures) ∙ known .known .given .1 in
     does-refuse
-    (insert-refused _ _ _ _ _ _ held (omega arith) read (gives-refused (c .before .before .before .before .resolve-given .ensures) (c .before .before .cause .given .1)))
+    (insert-refused _ _ _ _ _ held (a-room _ _ (omega arith)) read (gives-refused (c .before .before .before .before .resolve-given .ensures) (c .before .before .cause .given .1)))
     (c .refused4 .ensures)
 
 same-length-5 : tie.Need-same-length-5
@@ -111,7 +111,7 @@ returns-5 c =
     let held = sym (tested .before .holds-table .ensures) ∙ not-false _ (tested .if1 .left) in
     let read = sym (known .before .before .kind-of .ensures) ∙ known .known .given .1 in
     does-perform
-    (insert-known _ _ _ _ _ _ held (omega arith) read _ (gives-stands (found .before .before .resolve-given .ensures) (found .n .given .1) .query))
+    (insert-known _ _ _ _ _ held (a-room _ _ (omega arith)) read _ (gives-stands (found .before .before .resolve-given .ensures) (found .n .given .1) .query))
     (c .before .before .before .before .perform .ensures)
 
 pub insert-spec : {M : Type 1} → statement M

@@ -1,5 +1,5 @@
 -- `revoke_resolved` meets its contract.
-use Rattle.link.proofs.LinkedLaws.{performs-stopped, performs-revoked, revoke-sendable}
+use Rattle.link.proofs.RevokeLaws.{performs-stopped, performs-revoked, revoke-sendable}
 use borrow.Author.Needs.{needs}
 use Rattle.link.proofs.revoking.revoke_resolved.Statement.{statement}
 use Rattle.link.proofs.revoking.revoke_resolved.Tie as tie

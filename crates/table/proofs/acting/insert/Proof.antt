@@ -8,7 +8,7 @@ use Rattle.paths.proofs.GivingLaws.{gives-refused, gives-stands}
 use Rattle.table.specs.Tables.{isEntry}
 use Rattle.table.specs.Acts.{isAct}
 use Rattle.table.specs.Carrying.{actOf, fits}
-use Rattle.table.proofs.CallLaws.{does-refuse, does-carry, insert-no-table, insert-unknown, insert-refused, insert-known}
+use Rattle.table.proofs.CallLaws.{room-plain, does-refuse, does-carry, insert-no-table, insert-unknown, insert-refused, insert-known}
 use Rattle.table.proofs.acting.insert.Statement.{statement}
 use Rattle.table.proofs.acting.insert.Tie as tie
 
@@ -36,7 +36,7 @@ same-length-2 c = search needs
 returns-2 : tie.Need-returns-2
 returns-2 c =
     let held = c .before .before .before in
-    does-refuse (insert-unknown _ _ _ _ _ (sym (held .before .holds-table .ensures) ∙ not-false _ (held .if1 .left)) (sym (c .before .before .kind-of .ensures) ∙ c .enum-told .given .1))
+    does-refuse (insert-unknown _ _ _ _ _ (sym (held .before .holds-table .ensures) ∙ not-false _ (held .if1 .left)) (room-plain 1) (sym (c .before .before .kind-of .ensures) ∙ c .enum-told .given .1))
 
 resolve-given-requires : tie.Need-resolve-given-requires
 resolve-given-requires c κs = search needs
@@ -71,7 +71,7 @@ returns-3 c =
     let known = asked .before .before .before in
     let held = known .before .before .before in
     does-refuse
-    (insert-refused _ _ _ _ _ (sym (held .before .holds-table .ensures) ∙ not-false _ (held .if1 .left))
+    (insert-refused _ _ _ _ _ (sym (held .before .holds-table .ensures) ∙ not-false _ (held .if1 .left)) (room-plain 1)
     (sym (known .before .before .kind-of .ensures) ∙ known .known .given .1)
     (gives-refused (asked .resolve-given .ensures) (c .before .cause .given .1)))
 
@@ -85,7 +85,7 @@ returns-4 c =
     let known = asked .before .before .before in
     let held = known .before .before .before in
     does-carry
-    (insert-known _ _ _ _ _ (sym (held .before .holds-table .ensures) ∙ not-false _ (held .if1 .left))
+    (insert-known _ _ _ _ _ (sym (held .before .holds-table .ensures) ∙ not-false _ (held .if1 .left)) (room-plain 1)
     (sym (known .before .before .kind-of .ensures) ∙ known .known .given .1) _
     (gives-stands (asked .resolve-given .ensures) (c .before .before .before .before .before .before .n .given .1) .query)) (c .before .before .carry-out .ensures)
 

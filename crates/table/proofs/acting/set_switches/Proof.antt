@@ -5,7 +5,7 @@ use native.Mathlib.Omega.{arith}
 use borrow.Author.Tests.{not-true, not-false, le-leb}
 use Rattle.table.specs.Acts.{isAct}
 use Rattle.table.specs.Carrying.{actOf, fits}
-use Rattle.table.proofs.CallLaws.{does-refuse, does-carry, switches-no-table, switches-unknown, switches-known}
+use Rattle.table.proofs.CallLaws.{room-plain, does-refuse, does-carry, switches-no-table, switches-unknown, switches-known}
 use Rattle.table.proofs.acting.set_switches.Statement.{statement}
 use Rattle.table.proofs.acting.set_switches.Tie as tie
 
@@ -25,7 +25,7 @@ same-length-2 : tie.Need-same-length-2
 same-length-2 c = search needs
 
 returns-2 : tie.Need-returns-2
-returns-2 c = does-refuse (switches-unknown _ _ _ (sym (c .before .before .holds-table .ensures) ∙ not-false _ (c .before .if1 .left)) (omega arith))
+returns-2 c = does-refuse (switches-unknown _ _ _ (sym (c .before .before .holds-table .ensures) ∙ not-false _ (c .before .if1 .left)) (room-plain 1) (omega arith))
 
 cast-t14 : tie.Need-cast-t14
 cast-t14 c = search needs
@@ -43,7 +43,7 @@ same-length-3 c = search needs
 returns-3 : tie.Need-returns-3
 unfolding actOf
 returns-3 c =
-    does-carry (switches-known _ _ _ (sym (c .before .before .before .before .before .before .before .holds-table .ensures) ∙ not-false _ (c .before .before .before .before .before .before .if1 .left)) (omega arith)) (c .before .before .carry-out .ensures)
+    does-carry (switches-known _ _ _ (sym (c .before .before .before .before .before .before .before .holds-table .ensures) ∙ not-false _ (c .before .before .before .before .before .before .if1 .left)) (room-plain 1) (omega arith)) (c .before .before .carry-out .ensures)
 
 pub set-switches-spec : {M : Type 1} → statement M
 set-switches-spec =

@@ -29,8 +29,7 @@ tableIn m = unless (firstCause (when (not (holds m)) NoTable ∷ [])) (tableOf m
 unfoldable pub freshIn : List ℕ → Result Table
 freshIn m = unless (firstCause (when (ltb (length m) tableBytes) NoTable ∷ [])) fresh
 
--- 2: the record space of a linked call, 344 words for each of its k items and at least 344; its acts are numbered on from the lent number. The longest
--- record takes so many words: `few-words`
+-- the words that the longest record takes, with a path of 1,024 bytes: `few-words`
 abbrev pub recordSpace : ℕ
 recordSpace = 344
 
@@ -38,6 +37,8 @@ unfoldable pub atLeastOne : ℕ → ℕ
 atLeastOne zero = 1
 atLeastOne (suc k) = suc k
 
+-- 2: the record space of a linked call has 344 words for each of its k items, and at least 344. What is handed on is how acts are numbered: a plain
+-- call's are not, and a linked one's go on from the number lent.
 unfoldable pub recordRoom : ℕ → Link → Result Numbering
 recordRoom k plain = ok Plain
 recordRoom k (linked n w) = unless (firstCause (when (ltb (length w) (recordSpace * atLeastOne k)) NoSpace ∷ [])) (After n)

@@ -13,7 +13,7 @@ use Rattle.refusals.specs.Refusals.{when, firstCause, Result, refused, ok, andT
 use Rattle.paths.proofs.ComponentLaws.{and-left}
 use Rattle.table.specs.declared.Numbering.{Numbering}
 use Rattle.table.specs.Tables.{Table}
-use Rattle.table.specs.Carrying.{plain}
+use Rattle.table.specs.Carrying.{Link, plain}
 use Rattle.table.specs.Calls.{tableIn, freshIn, recordRoom}
 use Rattle.calls.specs.declared.PromptResponse.{PromptResponse}
 use Rattle.child.specs.declared.ChildUnaryPermissionArg.{ChildUnaryPermissionArg}
@@ -107,7 +107,7 @@ arguments-few code bytes ends responses =
     step-few (knownResponses responses) _ (λ known.
     order-few (areInOrder arg bytes ends responses) _ (λ h. items-few arg bytes ends known (order-fits arg bytes ends responses h))))
 
-pub step-asked : {A : Type 0} (a : Result A) (f : A → Result Creation) → ((x : A) → askedIn (f x) ≤ maxItems) → askedIn (andThen a f) ≤ maxItems
+step-asked : {A : Type 0} (a : Result A) (f : A → Result Creation) → ((x : A) → askedIn (f x) ≤ maxItems) → askedIn (andThen a f) ≤ maxItems
 unfolding andThen
 step-asked (refused cause) f h = unfold askedIn in omega arith
 step-asked (ok x) f h = h x
@@ -117,16 +117,18 @@ unfolding andThen askedIn creation Few
 args-asked numbers t cwd (refused cause) h = omega arith
 args-asked numbers t cwd (ok args) h = omega (arith, made-asked numbers t args cwd)
 
-pub created-asked : (numbers : Numbering) (t : Table) (code : ℕ) (bytes ends responses cwd : List ℕ)
+created-asked : (numbers : Numbering) (t : Table) (code : ℕ) (bytes ends responses cwd : List ℕ)
     → askedIn (andThen (argumentsOf code bytes ends responses) (λ args. ok (creation numbers t cwd args))) ≤ maxItems
 created-asked numbers t code bytes ends responses cwd = args-asked numbers t cwd (argumentsOf code bytes ends responses) (arguments-few code bytes ends responses)
 
+pub call-asked : (link : Link) (m c : List ℕ) (code : ℕ) (bytes ends responses cwd : List ℕ) → askedIn (childCall link m c code bytes ends responses cwd) ≤ maxItems
+unfolding childCall
+call-asked link m c code bytes ends responses cwd =
+    step-asked (tableIn m) _ (λ t.
+    step-asked (freshIn c) _ (λ empty.
+    step-asked (recordRoom (length ends) link) _ (λ numbers.
+    created-asked numbers t code bytes ends responses cwd)))
+
 pub asked-few : {m c : List ℕ} {code : ℕ} {bytes ends responses cwd m′ c′ : List ℕ} {r : ChildMade}
     → CreatesChild m c code bytes ends responses cwd m′ c′ r → r .asked ≤ maxItems
-unfolding childCall
-asked-few {m} {c} {code} {bytes} {ends} {responses} {cwd} C =
-    rw (C .asked)
-    (step-asked (tableIn m) _ (λ t.
-    step-asked (freshIn c) _ (λ empty.
-    step-asked (recordRoom (length ends) plain) _ (λ numbers.
-    created-asked numbers t code bytes ends responses cwd))))
+asked-few {m} {c} {code} {bytes} {ends} {responses} {cwd} C = rw (C .creates .asked) (call-asked plain m c code bytes ends responses cwd)

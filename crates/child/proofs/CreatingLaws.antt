@@ -25,7 +25,7 @@ use Rattle.child.specs.declared.ChildUnaryPermissionArg.{ChildUnaryPermi
 use Rattle.child.specs.declared.ChildUnaryPermissionArg.the-variants.{Inherit, Granted, NotGranted, GrantedList}
 use Rattle.child.specs.Arguments.{Item, Arguments, argOf, itemsOf, areInOrder, argumentsOf}
 use Rattle.child.specs.Making.{Made, then, itemStep, allItems, takeOver, takeOverActs, firstChild, completed, createChild}
-use Rattle.child.specs.Calls.{Creation, creation, childCall, refusalIn, askedIn, actsIn, childLeft, childAfter, CreatesChild}
+use Rattle.child.specs.Calls.{Creation, creation, childCall, refusalIn, askedIn, actsIn, childLeft, childAfter, Creates, CreatesChild}
 use Rattle.child.specs.Steps.{madeRefused, Makes, afterItems, Completes}
 use Rattle.child.specs.declared.ArgRead.the-variants.{Arg}
 use Rattle.child.proofs.ArgumentLaws.{Known, in-order}
@@ -104,10 +104,14 @@ module _ (link : Link) (m c : List ℕ) (code : ℕ) (bytes ends responses cwd :
 
 -- ---- what the call answers and leaves
 
+pub refused-creates : {call : Result Creation} {c : List ℕ} {cause : Refusal} {a : ChildMade} → call ≡ refused cause → a ≡ madeRefused cause 0 → Creates call c c a
+unfolding refusalIn askedIn childAfter outcomeOf
+refused-creates e f = rw f (record { outcome = rw e; asked = rw e; child = rw e })
+
 pub creates-refused : {m c : List ℕ} {code : ℕ} {bytes ends responses cwd : List ℕ} {cause : Refusal} {a : ChildMade}
     → childCall plain m c code bytes ends responses cwd ≡ refused cause → a ≡ madeRefused cause 0 → CreatesChild m c code bytes ends responses cwd m c a
-unfolding refusalIn askedIn actsIn childAfter outcomeOf doActs
-creates-refused e f = rw f (record { outcome = rw e; asked = rw e; parent = rw e; child = rw e })
+unfolding actsIn doActs
+creates-refused e f = record { creates = refused-creates e f; parent = rw e }
 
 pub over-asked : (t u : Table) → takeOver t u .asked ≡ 0
 unfolding takeOver
@@ -139,13 +143,6 @@ ends items rest (some cause) e f g = record {
   acts = ap (λ (x : Made). x .acts) (then-stops items rest e);
   grants = λ c. ap (λ (x : Made). doActs c (x .grants)) (then-stops items rest e);
 }
-
--- what a call is said to leave, whatever its checking order
-pub record Creates (call : Result Creation) (m c m′ c′ : List ℕ) (r : ChildMade) : Type 0 where
-  pub outcome : r .outcome ≡ outcomeOf (refusalIn call)
-  pub asked : r .asked ≡ askedIn call
-  pub parent : m′ ≡ doActs m (actsIn call)
-  pub child : c′ ≡ childAfter call c
 
 -- a call that has come through its items: the child's first memory c₁ is c₂, and the parent's memory m is m′
 pub record Ran (numbers : Numbering) (m c : List ℕ) (code : ℕ) (bytes ends responses cwd : List ℕ) (args : Arguments) (c₁ m′ c₂ : List ℕ) (r : ChildMade) : Type 0 where
@@ -192,8 +189,11 @@ module _ {numbers : Numbering} {m c : List ℕ} {code : ℕ} {bytes ends-of resp
       let E = ends items (takeOver (tableOf m′) (tableOf c₂)) (items .refused) refl (over-asked (tableOf m′) (tableOf c₂)) (over-acts (tableOf m′) (tableOf c₂)) in
       rw call (ap (λ (x : Made). x .acts) made-is ∙ E .acts)
 
+  pub parent-by : {call : Result Creation} → call ≡ ok (creation numbers (tableOf m) cwd args) → m′ ≡ doActs m (actsIn call)
+  parent-by call = R .made .parent ∙ ap (doActs m) (sym (acts-are call))
+
   pub creates-by : {call : Result Creation} {c₃ : List ℕ} {a : ChildMade} → call ≡ ok (creation numbers (tableOf m) cwd args)
-      → Completes (afterItems (r .outcome) (takeOver (tableOf m′) (tableOf c₂))) (r .asked) c₂ c₃ a → Creates call m c m′ c₃ a
+      → Completes (afterItems (r .outcome) (takeOver (tableOf m′) (tableOf c₂))) (r .asked) c₂ c₃ a → Creates call c c₃ a
   unfolding refusalIn askedIn childAfter creation
   creates-by call C =
       let rest = takeOver (tableOf m′) (tableOf c₂) in
@@ -208,7 +208,6 @@ module _ {numbers : Numbering} {m c : List ℕ} {code : ℕ} {bytes ends-of resp
       record {
         outcome = C .outcome ∙ ap outcomeOf (sym refusal) ∙ rw call;
         asked = C .times ∙ M .asked ∙ sym (E .times) ∙ ap (λ (x : Made). x .asked) (sym made-is) ∙ rw call;
-        parent = M .parent ∙ ap (doActs m) (sym (acts-are call));
         child = C .child ∙ ap (λ (o : Option Refusal). childLeft o (doActs c₂ (afterItems (r .outcome) rest .grants))) (sym refusal)
             ∙ ap (childLeft (createChild numbers (tableOf m) args cwd .refused)) (grants ∙ ap (λ (l : List ℕ). doActs l (createChild numbers (tableOf m) args cwd .grants)) (R .begun)) ∙ rw call;
       }
@@ -218,5 +217,5 @@ pub creates : {m c : List ℕ} {code : ℕ} {bytes ends-of responses cwd : List 
     → Ran Plain m c code bytes ends-of responses cwd args c₁ m′ c₂ r → {c₃ : List ℕ} {a : ChildMade}
     → Completes (afterItems (r .outcome) (takeOver (tableOf m′) (tableOf c₂))) (r .asked) c₂ c₃ a → CreatesChild m c code bytes ends-of responses cwd m′ c₃ a
 creates {m} {c} {code} {bytes} {ends-of} {responses} {cwd} {args} R C =
-    let B = creates-by R (child-known plain m c code bytes ends-of responses cwd (R .holding) (R .long) (room-plain _) args (R .read)) C in
-    record { outcome = B .outcome; asked = B .asked; parent = B .parent; child = B .child }
+    let call = child-known plain m c code bytes ends-of responses cwd (R .holding) (R .long) (room-plain _) args (R .read) in
+    record { creates = creates-by R call C; parent = parent-by R call }

@@ -169,4 +169,4 @@ module _ (m c : List ℕ) (code : ℕ) (bytes ends responses cwd : List ℕ) (h 
   pub child-held : {s : Creation} {m′ c′ : List ℕ} {r : ChildMade} → childCall plain m c code bytes ends responses cwd ≡ ok s
       → CreatesChild m c code bytes ends responses cwd m′ c′ r → holds c′ ≡ true
   unfolding childAfter
-  child-held e C = rw (C .child, e) (child-by (freshIn c) (argumentsOf code bytes ends responses) refl (child-call e))
+  child-held e C = rw (C .creates .child, e) (child-by (freshIn c) (argumentsOf code bytes ends responses) refl (child-call e))

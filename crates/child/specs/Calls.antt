@@ -58,9 +58,13 @@ unfoldable pub childAfter : Result Creation → List ℕ → List ℕ
 childAfter (refused cause) c = c
 childAfter (ok s) c = childLeft (s .made .refused) (doActs (put (s .first) c) (s .made .grants))
 
+-- what a call that comes to this answers, and the child's memory c after it
+pub record Creates (call : Result Creation) (c c′ : List ℕ) (r : ChildMade) : Type 0 where
+  pub outcome : r .outcome ≡ outcomeOf (refusalIn call)
+  pub asked : r .asked ≡ askedIn call
+  pub child : c′ ≡ childAfter call c
+
 -- memory m of the parent and c of the child become m′ and c′
 pub record CreatesChild (m c : List ℕ) (code : ℕ) (bytes ends responses cwd m′ c′ : List ℕ) (r : ChildMade) : Type 0 where
-  pub outcome : r .outcome ≡ outcomeOf (refusalIn (childCall plain m c code bytes ends responses cwd))
-  pub asked : r .asked ≡ askedIn (childCall plain m c code bytes ends responses cwd)
+  pub creates : Creates (childCall plain m c code bytes ends responses cwd) c c′ r
   pub parent : m′ ≡ doActs m (actsIn (childCall plain m c code bytes ends responses cwd))
-  pub child : c′ ≡ childAfter (childCall plain m c code bytes ends responses cwd) c

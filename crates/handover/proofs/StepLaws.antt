@@ -145,7 +145,7 @@ module _ (a : Main) (w : List ℕ) where
             (record { made = record { outcome = outcomeOf (refusalIn call); asked = child-calls.askedIn call }; words = length (sent a acts) })
             b
             d
-            (record { outcome = rw e; asked = rw e; child = rw e; sends = sends a w (rw e) })
+            (record { creates = record { outcome = rw e; asked = rw e; child = rw e }; sends = sends a w (rw e) })
             (rw e)
             (at-start _ _);
         is = refl;

@@ -1,6 +1,6 @@
 -- Laws of the linked child call: the record space of its items, what it answers and leaves, and how often it asks.
 use Prim.Native.Nat.{ℕ, zero, suc, _+_, _*_, _/_, _≤_}
-use mathlib.Core.Path.{_≡_}
+use mathlib.Core.Path.{_≡_, refl}
 use mathlib.Core.List.{List}
 use mathlib.Core.Bool.{false}
 use native.Mathlib.Omega.{arith}
@@ -12,16 +12,16 @@ use Rattle.refusals.specs.Refusals.{refused}
 use Rattle.paths.specs.Copying.{begun}
 use Rattle.table.specs.declared.Numbering.the-variants.{After}
 use Rattle.table.specs.Memory.{tableOf, doActs}
-use Rattle.table.specs.Carrying.{linked, outcomeOf}
-use Rattle.table.specs.Calls.{tableIn, freshIn, recordSpace, atLeastOne, recordRoom}
+use Rattle.table.specs.Carrying.{linked}
+use Rattle.table.specs.Calls.{recordSpace, atLeastOne}
 use Rattle.table.proofs.CallLaws.{room-long}
 use Rattle.child.specs.declared.ChildMade.{ChildMade}
 use Rattle.child.specs.Arguments.{maxItems, Arguments}
 use Rattle.child.specs.Making.{allItems, takeOver}
-use Rattle.child.specs.Calls.{childCall, refusalIn, askedIn, actsIn, childAfter}
+use Rattle.child.specs.Calls.{childCall, actsIn}
 use Rattle.child.specs.Steps.{afterItems, Completes}
-use Rattle.child.proofs.AskedLaws.{step-asked, created-asked}
-use Rattle.child.proofs.CreatingLaws.{child-known, Ran, acts-are, creates-by}
+use Rattle.child.proofs.AskedLaws.{call-asked}
+use Rattle.child.proofs.CreatingLaws.{child-known, refused-creates, Ran, acts-are, parent-by, creates-by}
 use Rattle.records.specs.Records.{numbered, allWords}
 use Rattle.link.specs.declared.ChildSent.{ChildSent}
 use Rattle.link.specs.Steps.{Records, childRefused}
@@ -60,11 +60,9 @@ has-room k w e = ltb-false w (recordSpace * atLeastOne k) e
 
 pub child-refused : {n : ℕ} {m c w : List ℕ} {code : ℕ} {bytes ends responses cwd : List ℕ} {cause : Refusal} {a : ChildSent}
     → childCall (linked n w) m c code bytes ends responses cwd ≡ refused cause → a ≡ childRefused cause 0 0 → LinkedChild m n c w code bytes ends responses cwd m n c w a
-unfolding refusalIn askedIn actsIn childAfter outcomeOf doActs numbered allWords begun
+unfolding actsIn doActs numbered allWords begun
 child-refused e f = rw f (record {
-  outcome = rw e;
-  asked = rw e;
-  child = rw e;
+  creates = refused-creates e refl;
   sends = record { memory = rw e; number = rw e (omega arith); words = rw e; count = rw e };
 })
 
@@ -75,23 +73,14 @@ pub child-sends : {n : ℕ} {m c w : List ℕ} {code : ℕ} {bytes ends response
     → LinkedChild m n c w code bytes ends responses cwd m′ n′ c₃ w′ (record { made = a; words = k })
 child-sends {n} {m} {c} {w} {code} {bytes} {ends} {responses} {cwd} {args} R room S C =
     let call = child-known (linked n w) m c code bytes ends responses cwd (R .holding) (R .long) (room-long (length ends) n w room) args (R .read) in
-    let B = creates-by R call C in
     let Z = rw (← acts-are R call) at S in
     record {
-      outcome = B .outcome;
-      asked = B .asked;
-      child = B .child;
-      sends = record { memory = B .parent; number = Z .number; words = from-start (Z .words) .0; count = from-start (Z .words) .1 };
+      creates = creates-by R call C;
+      sends = record { memory = parent-by R call; number = Z .number; words = from-start (Z .words) .0; count = from-start (Z .words) .1 };
     }
 
 -- ---- how often it asks
 
 pub linked-asked-few : {m : List ℕ} {n : ℕ} {c w : List ℕ} {code : ℕ} {bytes ends responses cwd m′ : List ℕ} {n′ : ℕ} {c′ w′ : List ℕ} {r : ChildSent}
     → LinkedChild m n c w code bytes ends responses cwd m′ n′ c′ w′ r → r .made .asked ≤ maxItems
-unfolding childCall
-linked-asked-few {m} {n} {c} {w} {code} {bytes} {ends} {responses} {cwd} L =
-    rw (L .asked)
-    (step-asked (tableIn m) _ (λ t.
-    step-asked (freshIn c) _ (λ empty.
-    step-asked (recordRoom (length ends) (linked n w)) _ (λ numbers.
-    created-asked numbers t code bytes ends responses cwd))))
+linked-asked-few {m} {n} {c} {w} {code} {bytes} {ends} {responses} {cwd} L = rw (L .creates .asked) (call-asked (linked n w) m c code bytes ends responses cwd)

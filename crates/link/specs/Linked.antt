@@ -11,7 +11,7 @@ use Rattle.table.specs.Calls.{switchesCall, insertCall}
 use Rattle.table.specs.Calls as table-calls
 use Rattle.calls.specs.declared.Call.{Call}
 use Rattle.calls.specs.Calls.{answerIn, actsIn, askCall, Answers, revokeCall}
-use Rattle.child.specs.Calls.{childCall, refusalIn, childAfter}
+use Rattle.child.specs.Calls.{childCall, Creates}
 use Rattle.child.specs.Calls as child-calls
 use Rattle.link.specs.declared.Sent.{Sent}
 use Rattle.link.specs.declared.AskSent.{AskSent}
@@ -50,7 +50,5 @@ pub record LinkedRevokes (m : List ℕ) (n : ℕ) (w : List ℕ) (d : Descriptor
 -- ---- child: the child's memory c becomes c′ too; acts before a refusal on the way are kept, with their numbers and records
 
 pub record LinkedChild (m : List ℕ) (n : ℕ) (c w : List ℕ) (code : ℕ) (bytes ends responses cwd m′ : List ℕ) (n′ : ℕ) (c′ w′ : List ℕ) (r : ChildSent) : Type 0 where
-  pub outcome : r .made .outcome ≡ outcomeOf (refusalIn (childCall (linked n w) m c code bytes ends responses cwd))
-  pub asked : r .made .asked ≡ child-calls.askedIn (childCall (linked n w) m c code bytes ends responses cwd)
-  pub child : c′ ≡ childAfter (childCall (linked n w) m c code bytes ends responses cwd) c
+  pub creates : Creates (childCall (linked n w) m c code bytes ends responses cwd) c c′ (r .made)
   pub sends : Sends n (child-calls.actsIn (childCall (linked n w) m c code bytes ends responses cwd)) m w m′ n′ w′ (r .words)

@@ -1,5 +1,5 @@
--- A local that is lent by `&mut` for a call, and comes back. What the callee is lent lives no longer than κ, the lifetime of the references within, so the call's lifetime is the
--- meet of a new one and κ, and κ's token is cut in two for the call. Nothing here is about records.
+-- A local that is lent by `&mut` for a call, and comes back. What the callee is lent lives no longer than κ, so the call's lifetime is the meet of a new one and κ, and κ's token is cut in
+-- two for the call. κ is the lifetime of the references within the local; where it has none, of anything else that is lent for the call. Nothing here is about records.
 --     Kept                 what the lender keeps while the local is lent
 --     lends-local          h lies at (b, o) ∗ [κ]_q  ⊢ ⇛ ∃ ν γ. own (the `&(ν ⊓ κ) mut T` ((b, o), γ, h)) ∗ [ν ⊓ κ] ∗ [κ] ∗ Kept ν γ
 --     local-back           [ν ⊓ κ] ∗ [κ] ∗ Kept ν γ ∗ res γ h′  ⊢ ⇛ (h′ lies at (b, o) ∗ [κ]_q)

@@ -7,6 +7,7 @@ use Rattle.refusals.specs.declared.Refusal.{Refusal}
 use Rattle.refusals.specs.declared.Refusal.the-variants.{
   NoTable,
   NoSpace,
+  UnknownState,
   Unknown,
   EmptyPath,
   PathTooLong,
@@ -18,9 +19,11 @@ use Rattle.refusals.specs.declared.Refusal.the-variants.{
   MalformedRecord,
 }
 
+-- in the checking order, in which 12 stands between 2 and 3
 abbrev pub refusalNumber : Refusal → ℕ
 refusalNumber NoTable = 1
 refusalNumber NoSpace = 2
+refusalNumber UnknownState = 12
 refusalNumber Unknown = 3
 refusalNumber EmptyPath = 4
 refusalNumber PathTooLong = 5

@@ -7,6 +7,8 @@ pub enum Refusal {
     NoTable,
     // Lent text or record space is too small.
     NoSpace,
+    // A number that should be a state, of a permission without a path, is none.
+    UnknownState,
     // An answer, mode, kind, child code, switches value or child list is none that the call takes.
     Unknown,
     EmptyPath,
@@ -30,6 +32,7 @@ pub fn refusal_number(refusal: Refusal) -> u8
     match refusal {
         Refusal::NoTable => 1,
         Refusal::NoSpace => 2,
+        Refusal::UnknownState => 12,
         Refusal::Unknown => 3,
         Refusal::EmptyPath => 4,
         Refusal::PathTooLong => 5,

@@ -1,0 +1,3 @@
+pub mod Unit
+pub mod Calls
+pub mod Claims

@@ -15,11 +15,12 @@
  * may be anything. A lent number (uint32_t *asked, size_t *text_size) must not be
  * NULL. Those that take a result are written by every call, by a refused one too:
  * 0 there, but for the counts of a child call. The numbers of the link (uint64_t
- * *number, *last, *highest) are state, as a table is, and take no result.
+ * *number, *last, *highest) and the state of a permission without a path (uint32_t
+ * *state) are kept, as a table is, and take no result.
  *
  * Results. A negative result -n is refusal n (enum permissions_refusal). Each
  * refusal comes in exactly its condition, when the earlier ones that apply do not
- * hold. A refused call changes no byte of any area and no number of the link, but
+ * hold. A refused call changes no byte of any area and no number that is kept, but
  * for what the child calls name. 0 from a check means that the path may be read, and
  * no other result does: `if (permissions_check(..) != 0) deny();` is right and
  * complete.
@@ -51,9 +52,9 @@ extern "C" {
 #endif
 
 #define PERMISSIONS_VERSION_MAJOR 0
-#define PERMISSIONS_VERSION_MINOR 3
+#define PERMISSIONS_VERSION_MINOR 4
 #define PERMISSIONS_VERSION_PATCH 0
-#define PERMISSIONS_VERSION "0.3.0"
+#define PERMISSIONS_VERSION "0.4.0"
 
 /* The compiler warns where the result of a call is dropped, if it can. */
 #if defined(__GNUC__)
@@ -126,7 +127,7 @@ enum permissions_state {
 enum permissions_answer {
     PERMISSIONS_ANSWER_DENY = 0,
     PERMISSIONS_ANSWER_ALLOW = 1,
-    PERMISSIONS_ANSWER_ALLOW_ALL = 2 /* reading as a whole */
+    PERMISSIONS_ANSWER_ALLOW_ALL = 2 /* reading as a whole; without a path see there */
 };
 
 /* What a child is to have. */
@@ -144,13 +145,15 @@ enum permissions_arrival {
     PERMISSIONS_ARRIVAL_EARLY = 2    /* one before it is missing; nothing is done, and it must come again */
 };
 
-/* Refusals, as results. 9 is for linked calls alone, and 11 for records that arrive. */
+/* Refusals, as results, in the order in which they are looked for. 12 is for a permission without a path alone, 9 for
+ * linked calls, and 11 for records that arrive. */
 enum permissions_refusal {
     PERMISSIONS_REFUSAL_NO_TABLE = -1,          /* the memory is too small for a table, or holds none; memory about to get a
                                                    fresh or child table need only be large enough; or a standby's last
                                                    number is above its highest */
     PERMISSIONS_REFUSAL_NO_SPACE = -2,          /* the text space is under 1,041 bytes, or the record space under 344 words for
                                                    each child item (at least 344) */
+    PERMISSIONS_REFUSAL_UNKNOWN_STATE = -12,    /* the state of a permission without a path is above 5 */
     PERMISSIONS_REFUSAL_UNKNOWN = -3,           /* an answer, mode, kind or child code is unknown, switches are above 31, or a
                                                    child's items or answers are not in order */
     PERMISSIONS_REFUSAL_EMPTY_PATH = -4,        /* the path is empty */
@@ -341,6 +344,55 @@ int32_t permissions_child(void *parent, size_t parent_size,
                           const uint32_t *answers, size_t answers_count,
                           const void *directory, size_t directory_size,
                           uint32_t *asked);
+
+/* ---- a permission without a path ----
+ *
+ * A yes or a no, say whether scripts may use the modem: one state (enum
+ * permissions_state), which the program keeps and lends with each call, and the
+ * setting whether a check may ask the operator. Nothing else is lent; no text is
+ * written, and the link knows nothing of it: a program that wants the state on its
+ * standby sends it by its own way.
+ *
+ *   state          a check                         a request                a revoke
+ *   Granted        passes                          returns it               leaves Prompt
+ *   Prompt         asks, if the setting is not 0;  asks, whatever the       leaves it
+ *                  else it fails with Prompt       setting
+ *   any other      fails with it                   returns it               leaves it
+ *   asked: Allow   leaves Granted and passes       leaves Granted
+ *   asked: AllowAll leaves Granted and passes      leaves Denied
+ *   asked: Deny    leaves Denied and fails         leaves Denied
+ *
+ * So whether the operator is to be asked is seen from the state:
+ *
+ *     static uint32_t modem = PERMISSIONS_STATE_PROMPT;
+ *     uint32_t answer = PERMISSIONS_ANSWER_DENY, asked;
+ *     if (modem == PERMISSIONS_STATE_PROMPT)
+ *         answer = put_the_question();
+ *     if (permissions_unit_check(&modem, 1, answer, &asked) == 0)
+ *         dial();
+ *
+ * A request never answers Prompt, and what a check has passed it passes until a
+ * revoke (proved).
+ */
+
+/* Checks.
+ *   state    the state, which the call leaves as the table says; a refused call leaves it as it was
+ *   prompt   whether a check may ask: 0 it may not, any other number it may
+ *   answer   enum permissions_answer; must be known even if nobody is asked
+ *   asked    1 if the operator was asked, else 0
+ * Result: 0 yes; the state (enum permissions_state, 1 to 5) that it fails with; refusals 12 and 3, in this order. */
+PERMISSIONS_MUST_USE
+int32_t permissions_unit_check(uint32_t *state, uint32_t prompt, uint32_t answer, uint32_t *asked);
+
+/* Requests. Arguments as for a check; the setting makes no difference.
+ * Result: the state that it leaves, never Prompt; refusals 12 and 3, in this order. */
+PERMISSIONS_MUST_USE
+int32_t permissions_unit_request(uint32_t *state, uint32_t prompt, uint32_t answer, uint32_t *asked);
+
+/* Revokes.
+ * Result: the state that it leaves; refusal 12. */
+PERMISSIONS_MUST_USE
+int32_t permissions_unit_revoke(uint32_t *state);
 
 /* ---- the link: the standby's half ----
  *
@@ -586,6 +638,7 @@ static inline const char *permissions_refusal_name(int32_t result)
     switch (result) {
     case PERMISSIONS_REFUSAL_NO_TABLE: return "no table";
     case PERMISSIONS_REFUSAL_NO_SPACE: return "text or record space too small";
+    case PERMISSIONS_REFUSAL_UNKNOWN_STATE: return "unknown state";
     case PERMISSIONS_REFUSAL_UNKNOWN: return "unknown number or items out of order";
     case PERMISSIONS_REFUSAL_EMPTY_PATH: return "empty path";
     case PERMISSIONS_REFUSAL_PATH_TOO_LONG: return "path too long";

@@ -454,6 +454,49 @@ static void a_full_table(void)
     check("/entry255", "/", PERMISSIONS_ANSWER_ALLOW);
 }
 
+static void show_unit(const char *what, int32_t result, uint32_t state)
+{
+    if (result < 0)
+        printf("%s: refused %d, %s", what, (int)-result, permissions_refusal_name(result));
+    else
+        printf("%s: %s", what, permissions_state_name(result));
+    printf(", state %u%s\n", (unsigned)state, asked ? ", asked" : "");
+}
+
+static void a_permission_without_a_path(void)
+{
+    uint32_t modem = PERMISSIONS_STATE_PROMPT;
+    int32_t result;
+
+    puts("-- a permission without a path");
+    asked = 0;
+    result = permissions_unit_check(&modem, 0, PERMISSIONS_ANSWER_ALLOW, &asked);
+    show_unit("check without the setting, Allow", result, modem);
+    result = permissions_unit_check(&modem, 1, PERMISSIONS_ANSWER_ALLOW_ALL, &asked);
+    show_unit("check with it, AllowAll", result, modem);
+    result = permissions_unit_check(&modem, 0, PERMISSIONS_ANSWER_DENY, &asked);
+    show_unit("check again, Deny", result, modem);
+    result = permissions_unit_revoke(&modem);
+    show_unit("revoke", result, modem);
+    result = permissions_unit_request(&modem, 0, PERMISSIONS_ANSWER_ALLOW, &asked);
+    show_unit("request without the setting, Allow", result, modem);
+    asked = 0;
+    result = permissions_unit_revoke(&modem);
+    show_unit("revoke", result, modem);
+    result = permissions_unit_request(&modem, 1, PERMISSIONS_ANSWER_ALLOW_ALL, &asked);
+    show_unit("request, AllowAll", result, modem);
+    asked = 0;
+    result = permissions_unit_revoke(&modem);
+    show_unit("revoke", result, modem);
+    result = permissions_unit_check(&modem, 1, 3, &asked);
+    show_unit("check, answer 3", result, modem);
+    modem = 6;
+    result = permissions_unit_check(&modem, 1, 3, &asked);
+    show_unit("check of state 6, answer 3", result, modem);
+    result = permissions_unit_revoke(&modem);
+    show_unit("revoke of state 6", result, modem);
+}
+
 int main(void)
 {
     printf("permissions %s\n", PERMISSIONS_VERSION);
@@ -469,5 +512,6 @@ int main(void)
     a_standby();
     saving();
     a_full_table();
+    a_permission_without_a_path();
     return 0;
 }

@@ -15,7 +15,7 @@ static ucontext_t outside, inside;
 static unsigned char table[PERMISSIONS_TABLE_BYTES], child[PERMISSIONS_TABLE_BYTES];
 static char text[PERMISSIONS_TEXT_BYTES], relative[PERMISSIONS_MAX_PATH_BYTES], directory[PERMISSIONS_MAX_PATH_BYTES];
 static size_t relative_size;
-static uint32_t number, more, last, records[2 * PERMISSIONS_RECORD_WORDS];
+static uint32_t number, more, last, modem, records[2 * PERMISSIONS_RECORD_WORDS];
 static size_t size, start, words;
 static uint64_t change, applied, highest, owed;
 static volatile int32_t result;
@@ -100,6 +100,9 @@ static void linked_child(void)
 }
 static void arrive(void) { result = permissions_arrive(child, sizeof child, &applied, &highest, records, words); }
 static void say_owed(void) { result = permissions_owed(applied, highest, &owed); }
+static void unit_check(void) { result = permissions_unit_check(&modem, 1, 1, &number); }
+static void unit_request(void) { result = permissions_unit_request(&modem, 1, 1, &number); }
+static void unit_revoke(void) { result = permissions_unit_revoke(&modem); }
 static void used(void) { result = permissions_used(table, sizeof table); }
 static void head(void) { result = permissions_head(table, sizeof table, &number, &more, &last); }
 static void entry(void) { result = permissions_entry(table, sizeof table, 3, &number, &start, &size); }
@@ -113,7 +116,8 @@ static const struct {
              {"linked_insert", linked_insert}, {"linked_switches", linked_switches}, {"linked_check", linked_check},
              {"linked_check_all", linked_check_all}, {"linked_request", linked_request},
              {"linked_request_all", linked_request_all}, {"linked_revoke", linked_revoke},
-             {"linked_revoke_all", linked_revoke_all}, {"linked_child", linked_child}, {"arrive", arrive}, {"owed", say_owed}};
+             {"linked_revoke_all", linked_revoke_all}, {"linked_child", linked_child}, {"arrive", arrive}, {"owed", say_owed},
+             {"unit_check", unit_check}, {"unit_request", unit_request}, {"unit_revoke", unit_revoke}};
 
 /* The bytes of a fresh stack that a call touches. */
 static size_t depth(void (*call)(void))
@@ -153,6 +157,7 @@ static void fill(void)
     /* change 1, an insert of a long path, for a standby with the same entries */
     memcpy(child, table, sizeof child);
     change = applied = highest = 0;
+    modem = PERMISSIONS_STATE_PROMPT;
     result = permissions_linked_insert(table, sizeof table, &change, PERMISSIONS_KIND_FLAG_DENIED, relative, relative_size,
                                        directory, 500, records, PERMISSIONS_RECORD_WORDS, &words);
     memcpy(table, child, sizeof table);

@@ -1,7 +1,7 @@
 /* Faults that a build with -DBREAK puts into what a call did, one at a time, by a third argument: hostile CALLS SEED FAULT.
- * From FIRST_WITHOUT_MODEL on nothing is held against the model, so that what calls say of each other must notice the
- * fault. tests/hostile-test sees that each up to LAST_FAULT is noticed. */
-enum { FIRST_BROKEN_CALL = 1000, FIRST_WITHOUT_MODEL = 59, LAST_FAULT = 74 };
+ * From FIRST_WITHOUT_MODEL to LAST_WITHOUT_MODEL nothing is held against the model, so that what calls say of each other
+ * must notice the fault. tests/hostile-test sees that each up to LAST_FAULT is noticed. */
+enum { FIRST_BROKEN_CALL = 1000, FIRST_WITHOUT_MODEL = 59, LAST_WITHOUT_MODEL = 77, LAST_FAULT = 82 };
 
 static unsigned long fault;
 
@@ -119,6 +119,41 @@ static void break_standby(int32_t result)
     }
 }
 
+/* ---- a permission without a path */
+
+static int is_unit(void)
+{
+    return current == UNIT_CHECKED || current == UNIT_REQUESTED || current == UNIT_REVOKED;
+}
+
+/* A call of this function that asked. */
+static int asked_unit(int function)
+{
+    return current == function && number_in(NUMBER) == 1;
+}
+
+/* Another state left, and answered. */
+static int32_t leave(uint32_t state)
+{
+    memcpy(areas[STATE].start, &state, sizeof state);
+    return (int32_t)state;
+}
+
+static int32_t break_unit(int32_t result)
+{
+    switch (fault) {
+    case 75: if (is_unit() && result < 0) change(STATE, 0); return result;                /* a refusal changes the state */
+    case 76: return current == UNIT_CHECKED && turn.unit.state == GRANTED && result == 0 ? leave(DENIED) : result; /* passes once */
+    case 77: if (is_unit() && areas[NUMBER].lent && result < 0) change(NUMBER, 0); return result; /* asked, and refused */
+    case 78: return asked_unit(UNIT_REQUESTED) && turn.unit.answer == ALLOW_ALL ? leave(GRANTED) : result; /* AllowAll a yes */
+    case 79: return asked_unit(UNIT_CHECKED) && turn.unit.answer == ALLOW_ALL ? leave(DENIED) : result;    /* AllowAll a no */
+    case 80: return asked_unit(UNIT_REQUESTED) && turn.unit.prompt == 0 ? leave(PROMPT) : result; /* the setting heeded */
+    case 81: return current == UNIT_REVOKED && result == DENIED ? leave(PROMPT) : result; /* Denied lifted by a revoke */
+    case 82: return is_unit() && areas[NUMBER].lent && result == -12 && turn.unit.answer >= ANSWERS ? -3 : result; /* 3 before 12 */
+    default: return result;
+    }
+}
+
 /* ---- all calls */
 
 /* Faults in the lent areas. */
@@ -166,6 +201,7 @@ static int32_t broken(int32_t result)
         return result;
     break_areas(result);
     break_standby(result);
+    result = break_unit(result);
     switch (fault) {
     case 14: return current == CHECK_PATH && result > 0 ? 0 : result;     /* a check that fails passes */
     case 15: return result == -8 ? 0 : result;                            /* a full table is no refusal */
@@ -197,5 +233,5 @@ static int32_t broken(int32_t result)
 
 static int is_without_model(void)
 {
-    return fault >= FIRST_WITHOUT_MODEL && fault <= LAST_FAULT && calls >= FIRST_BROKEN_CALL;
+    return fault >= FIRST_WITHOUT_MODEL && fault <= LAST_WITHOUT_MODEL && calls >= FIRST_BROKEN_CALL;
 }

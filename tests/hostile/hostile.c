@@ -16,7 +16,7 @@
 #include <string.h>
 #include <unistd.h>
 
-enum { EXTRA_BYTES = 4096, SLOTS = 12, GREATEST_CAUSE = 11, GREATEST_STATE = 5, PATIENCE_SECONDS = 120 };
+enum { EXTRA_BYTES = 4096, SLOTS = 12, GREATEST_CAUSE = 12, GREATEST_STATE = 5, PATIENCE_SECONDS = 120 };
 
 /* ---- the functions, and which results the header names for each */
 
@@ -24,7 +24,7 @@ enum {
     FRESH, INSERT, SET_SWITCHES, QUERY, QUERY_ALL, CHECK_ASKS, CHECK_PATH, CHECK_ALL_ASKS, CHECK_ALL, REQUEST_ASKS,
     REQUEST_PATH, REQUEST_ALL_ASKS, REQUEST_ALL, REVOKE, REVOKE_ALL, MAKE_CHILD, LINKED_INSERT, LINKED_SWITCHES,
     LINKED_CHECK, LINKED_CHECK_ALL, LINKED_REQUEST, LINKED_REQUEST_ALL, LINKED_REVOKE, LINKED_REVOKE_ALL, LINKED_CHILD,
-    ARRIVE, OWED, USED, HEAD, ENTRY, FUNCTIONS
+    ARRIVE, OWED, USED, HEAD, ENTRY, UNIT_CHECKED, UNIT_REQUESTED, UNIT_REVOKED, FUNCTIONS
 };
 
 #define CAUSE(n) (1u << (n))
@@ -65,6 +65,9 @@ static const struct {
     [USED] = {"used", CAUSE(1), 4, TABLE_BYTES},
     [HEAD] = {"head", CAUSE(1), 0, 0},
     [ENTRY] = {"entry", CAUSE(1), 0, 1},
+    [UNIT_CHECKED] = {"unit_check", CAUSE(3) | CAUSE(12), 0, 5},
+    [UNIT_REQUESTED] = {"unit_request", CAUSE(3) | CAUSE(12), 0, 5},
+    [UNIT_REVOKED] = {"unit_revoke", CAUSE(12), 0, 5},
 };
 
 /* ---- what has happened so far */
@@ -139,6 +142,9 @@ static struct turn {
     uint64_t *last, *highest;
     const uint32_t *words;
     size_t words_size;
+    struct {
+        uint32_t state, prompt, answer; /* the state before the call */
+    } unit;
 } turn;
 
 static uint32_t word_in(int area, size_t place)
@@ -274,6 +280,10 @@ static void hold_to_header(int32_t result)
     if ((current == CHECK_PATH || current == CHECK_ALL || current == LINKED_CHECK || current == LINKED_CHECK_ALL)
         && result == GRANTED_PARTIAL)
         violation("fails with state %d", (int)result);
+    if (current == UNIT_REQUESTED && result == PROMPT)
+        violation("answers Prompt");
+    if (current == UNIT_REVOKED && result == GRANTED)
+        violation("leaves Granted");
 }
 
 /* What a linked call must leave, whatever the model: a number for each head among its words, one behind the other. */
@@ -1229,13 +1239,75 @@ static void run_owed(void)
     hold_to_owed();
 }
 
+/* ---- a permission without a path */
+
+enum { UNITS = 8 };
+
+/* Their states, kept from call to call, and whether a check has passed since the last revoke. */
+static struct unit {
+    uint32_t state;
+    int has_passed;
+} units[UNITS];
+
+static int32_t call_unit(int call, uint32_t *state, uint32_t prompt, uint32_t answer, uint32_t *asked)
+{
+    if (call == CHECK)
+        return permissions_unit_check(state, prompt, answer, asked);
+    if (call == REQUEST)
+        return permissions_unit_request(state, prompt, answer, asked);
+    return permissions_unit_revoke(state);
+}
+
+/* What a call must leave, whatever the model: the state that it answers, or as it was; and a pass until a revoke. */
+static void hold_to_unit(struct unit *unit, int call, int32_t result)
+{
+    uint32_t state = number_in(STATE);
+
+    if (state != (result < 0 ? unit->state : (uint32_t)result))
+        violation("result %d, and the state goes from %u to %u", (int)result, (unsigned)unit->state, (unsigned)state);
+    if (call != UNIT_REVOKE && result < 0 && number_in(NUMBER) != 0)
+        violation("refused by %d, and asked", (int)-result);
+    if (unit->has_passed && call == CHECK && result > 0)
+        violation("fails with %d behind a pass", (int)result);
+    unit->has_passed = (unit->has_passed && call != UNIT_REVOKE) || (call == CHECK && result == 0);
+    unit->state = state;
+}
+
+static void run_unit(void)
+{
+    static const int made[] = {UNIT_CHECKED, UNIT_REQUESTED, UNIT_REVOKED};
+    struct unit *unit = &units[below(UNITS)];
+    int call = (int)below(3);
+    uint32_t prompt = make_number(2), answer = make_number(ANSWERS), state, told, *lent, *asked = NULL;
+    int32_t expected, result;
+
+    if (one_in(3)) {
+        unit->state = one_in(2) ? PROMPT : make_number(STATES);
+        unit->has_passed = 0;
+    }
+    turn.unit.state = state = unit->state;
+    turn.unit.prompt = prompt;
+    turn.unit.answer = answer;
+    lent = lend(STATE, &state, sizeof state);
+    if (call != UNIT_REVOKE)
+        asked = lend(NUMBER, NULL, sizeof *asked);
+    expected = model_unit(call, &state, prompt, answer, &told);
+    want_number(STATE, state);
+    if (call != UNIT_REVOKE)
+        want_number(NUMBER, told);
+    next(made[call]);
+    result = settle(call_unit(call, lent, prompt, answer, asked), expected);
+    hold_to_unit(unit, call, result);
+}
+
 /* ---- the run */
 
 static void run_turn(void)
 {
     static void (*const turns[])(void) = {run_insert, run_insert, run_insert, run_ask,      run_ask,  run_ask,
                                           run_query,  run_revoke, run_child,  run_child,    run_used, run_head,
-                                          run_arrive, run_arrive, run_arrive, run_switches, run_owed, run_entry};
+                                          run_arrive, run_arrive, run_arrive, run_switches, run_owed, run_entry,
+                                          run_unit};
     void (*run)(void) = one_in(80) ? run_fresh : turns[below(sizeof turns / sizeof turns[0])];
 
     lend_none();

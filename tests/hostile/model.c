@@ -642,3 +642,21 @@ int model_arrive(struct table *table, struct standby *standby, const uint32_t *w
         standby->highest = record.number;
     return is_next ? APPLIED : EARLY;
 }
+
+/* ---- a permission without a path */
+
+int model_unit(int call, uint32_t *state, uint32_t prompt, uint32_t answer, uint32_t *asked)
+{
+    *asked = 0;
+    if (*state >= STATES)
+        return -12;
+    if (call != UNIT_REVOKE && answer >= ANSWERS)
+        return -3;
+    if (call == UNIT_REVOKE && *state == GRANTED) {
+        *state = PROMPT;
+    } else if (*state == PROMPT && (call == REQUEST || (call == CHECK && prompt != 0))) {
+        *asked = 1;
+        *state = answer == ALLOW || (answer == ALLOW_ALL && call == CHECK) ? GRANTED : DENIED;
+    }
+    return (int)*state;
+}

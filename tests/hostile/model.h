@@ -19,11 +19,11 @@ enum {
 
 enum { KIND_G, KIND_D, KIND_P, KIND_I, KINDS };
 enum { MODE_DENIED, MODE_PARTIAL, MODE_GRANTED, MODES };
-enum { GRANTED, GRANTED_PARTIAL, PROMPT, DENIED, DENIED_PARTIAL, IGNORED };
+enum { GRANTED, GRANTED_PARTIAL, PROMPT, DENIED, DENIED_PARTIAL, IGNORED, STATES };
 enum { DENY, ALLOW, ALLOW_ALL, ANSWERS };
 enum { INHERIT, CHILD_GRANTED, NOT_GRANTED, LIST, CODES };
 enum { SWITCH_GRANTED = 1, SWITCH_DENIED = 2, SWITCH_IGNORED = 4, SWITCH_PROMPT_DENIED = 8, SWITCH_PROMPT = 16, SWITCHES = 32 };
-enum { CHECK, REQUEST };
+enum { CHECK, REQUEST, UNIT_REVOKE /* of a permission without a path */ };
 enum { APPLIED, REPEAT, EARLY };
 
 struct bytes {
@@ -99,5 +99,8 @@ int model_child(struct table *parent, struct table *child, const struct child_ca
 /* Takes the words of one record at a standby whose n is not above its h. Result: the answer, -11 or -8. The table may point
  * into memory that lives until the next call. */
 int model_arrive(struct table *table, struct standby *standby, const uint32_t *words, size_t size);
+
+/* A call on a permission without a path; the answer counts for a check or request. Result: the state afterwards, -12 or -3. */
+int model_unit(int call, uint32_t *state, uint32_t prompt, uint32_t answer, uint32_t *asked);
 
 #endif

@@ -28,6 +28,7 @@ pub struct Given<'a> {
 /// The scope's refusals that a call script can reach, by their numbers.
 #[derive(Clone, Copy, Debug)]
 pub enum Refusal {
+    UnknownState = 12,
     Argument = 3,
     EmptyPath = 4,
     PathLength = 5,
@@ -75,11 +76,18 @@ fn address<A: AllowDescriptor>(list: &List<A>) -> *const () {
     std::ptr::from_ref(list).cast()
 }
 
-fn watch(table: &Table, answer: u32) {
+/// The operator's answer for the call that follows.
+fn hand_in(answer: u32) {
     WATCH.with(|watch| {
         watch.answer.set(answer);
         watch.asks.set(0);
         watch.message.replace(None);
+    });
+}
+
+fn watch(table: &Table, answer: u32) {
+    hand_in(answer);
+    WATCH.with(|watch| {
         watch.parent.set(address(&table.descriptors.inner));
         watch.item.set(0);
         watch.over.set(None);
@@ -383,6 +391,80 @@ pub fn child(parent: &mut Table, child: &mut Table, call: &ChildCall) -> (Option
     *parent = run.parent;
     *child = made;
     (refusal, run.asks)
+}
+
+/// The Rust's permission without a path, by its state's number, which may be
+/// none.
+pub struct Unit {
+    pub number: u32,
+    pub prompt: bool,
+}
+
+impl Default for Unit {
+    fn default() -> Self {
+        Self {
+            number: PermissionState::default() as u32,
+            prompt: false,
+        }
+    }
+}
+
+impl Unit {
+    fn permission(&self) -> Result<UnitPermission, Refusal> {
+        let state = match self.number {
+            0 => PermissionState::Granted,
+            1 => PermissionState::GrantedPartial,
+            2 => PermissionState::Prompt,
+            3 => PermissionState::Denied,
+            4 => PermissionState::DeniedPartial,
+            5 => PermissionState::Ignored,
+            _ => return Err(Refusal::UnknownState),
+        };
+        Ok(UnitPermission {
+            name: "modem",
+            description: "the modem",
+            state,
+            prompt: self.prompt,
+        })
+    }
+
+    /// Runs a call, and keeps the state that it leaves; texts are left out.
+    fn run(
+        &mut self,
+        answer: u32,
+        call: impl FnOnce(&mut UnitPermission) -> Option<PermissionState>,
+    ) -> Result<Told, Refusal> {
+        let mut permission = self.permission()?;
+        known_answer(answer)?;
+        hand_in(answer);
+        let state = call(&mut permission);
+        assert_eq!(permission.prompt, self.prompt);
+        self.number = permission.query() as u32;
+        Ok(Told {
+            state,
+            asked: WATCH.with(|watch| watch.asks.get() > 0),
+            text: None,
+        })
+    }
+
+    pub fn request(&mut self, answer: u32) -> Result<Told, Refusal> {
+        self.run(answer, |permission| Some(permission.request()))
+    }
+
+    pub fn check(&mut self, answer: u32) -> Result<Told, Refusal> {
+        self.run(answer, |permission| {
+            permission
+                .check(|| None, || None)
+                .err()
+                .map(|error| error.state)
+        })
+    }
+
+    pub fn revoke(&mut self) -> Result<PermissionState, Refusal> {
+        let told = self.run(0, |permission| Some(permission.revoke()))?;
+        assert!(!told.asked);
+        Ok(told.state.expect("a revoke's state"))
+    }
 }
 
 /// A table as `list` shows it.

@@ -12,6 +12,7 @@ use read::calls::Given;
 use read::calls::Refusal;
 use read::calls::Table;
 use read::calls::Told;
+use read::calls::Unit;
 
 // The extracted part, and beside it what must see its private items. It holds
 // more than the calls use.
@@ -45,6 +46,11 @@ enum Call {
     Child(ChildCall),
     List,
     ChildList,
+    Unit(u32, bool),
+    UnitRequest(u32),
+    UnitRevoke,
+    UnitCheck(u32),
+    UnitState,
     /// `linked` and `number`, which this program has no use for.
     Ignored,
 }
@@ -71,6 +77,15 @@ impl<'a> Words<'a> {
             let digit = byte.is_ascii_digit().then_some(byte - b'0')?;
             number.checked_mul(10)?.checked_add(u32::from(digit))
         })
+    }
+
+    /// 0 or 1.
+    fn flag(&mut self) -> Option<bool> {
+        match self.number()? {
+            0 => Some(false),
+            1 => Some(true),
+            _ => None,
+        }
     }
 
     fn bytes(&mut self) -> Option<Bytes> {
@@ -139,10 +154,13 @@ fn parsed(line: &[u8]) -> Option<Call> {
         }),
         b"list" => Call::List,
         b"childlist" => Call::ChildList,
+        b"unit" => Call::Unit(words.number()?, words.flag()?),
+        b"unitrequest" => Call::UnitRequest(words.number()?),
+        b"unitrevoke" => Call::UnitRevoke,
+        b"unitcheck" => Call::UnitCheck(words.number()?),
+        b"unitstate" => Call::UnitState,
         b"linked" => {
-            if words.number()? > 1 {
-                return None;
-            }
+            words.flag()?;
             Call::Ignored
         }
         b"number" => {
@@ -173,6 +191,21 @@ fn escaped(bytes: &[u8]) -> String {
     text
 }
 
+/// The answer lines of a check.
+fn check_lines(told: &Told) -> String {
+    let words = match told.state {
+        None => String::from("passed"),
+        Some(state) => format!("failed {state:?}"),
+    };
+    told_lines(words, told)
+}
+
+/// The answer lines of a request.
+fn request_lines(told: &Told) -> String {
+    let state = told.state.expect("a request's state");
+    told_lines(format!("{state:?}"), told)
+}
+
 /// The answer lines of a check or request whose first words are at hand.
 fn told_lines(words: String, told: &Told) -> String {
     let asked = u32::from(told.asked);
@@ -197,12 +230,13 @@ fn table_lines(table: &Table) -> String {
 }
 
 #[derive(Default)]
-struct Tables {
+struct Held {
     main: Table,
     child: Table,
+    unit: Unit,
 }
 
-impl Tables {
+impl Held {
     fn answer(&mut self, call: &Call) -> String {
         if let Call::Child(call) = call {
             let (refusal, asked) = calls::child(&mut self.main, &mut self.child, call);
@@ -236,17 +270,10 @@ impl Tables {
                 format!("{state:?}")
             }
             Call::Check(path, directory, answer) => {
-                let told = calls::check(main, given_some(path, directory), *answer)?;
-                let words = match told.state {
-                    None => String::from("passed"),
-                    Some(state) => format!("failed {state:?}"),
-                };
-                told_lines(words, &told)
+                check_lines(&calls::check(main, given_some(path, directory), *answer)?)
             }
             Call::Request(path, directory, answer) => {
-                let told = calls::request(main, given_some(path, directory), *answer)?;
-                let state = told.state.expect("a request's state");
-                told_lines(format!("{state:?}"), &told)
+                request_lines(&calls::request(main, given_some(path, directory), *answer)?)
             }
             Call::Revoke(path, directory) => {
                 let state = calls::revoke(main, given_some(path, directory))?;
@@ -254,6 +281,21 @@ impl Tables {
             }
             Call::List => table_lines(main),
             Call::ChildList => table_lines(&self.child),
+            Call::Unit(number, prompt) => {
+                self.unit = Unit {
+                    number: *number,
+                    prompt: *prompt,
+                };
+                ok()
+            }
+            Call::UnitRequest(answer) => request_lines(&self.unit.request(*answer)?),
+            Call::UnitRevoke => format!("{:?}", self.unit.revoke()?),
+            Call::UnitCheck(answer) => check_lines(&self.unit.check(*answer)?),
+            Call::UnitState => format!(
+                "state {} prompt {}",
+                self.unit.number,
+                u32::from(self.unit.prompt)
+            ),
             Call::Ignored => ok(),
             Call::Child(_) => unreachable!("answered above"),
         })
@@ -265,13 +307,13 @@ fn main() -> std::io::Result<()> {
     let mut script = Vec::new();
     std::io::stdin().read_to_end(&mut script)?;
     let mut output = BufWriter::new(std::io::stdout().lock());
-    let mut tables = Tables::default();
+    let mut held = Held::default();
     for (place, line) in script.split(|byte| *byte == b'\n').enumerate() {
         if line.is_empty() || line.starts_with(b"#") {
             continue;
         }
         match parsed(line) {
-            Some(call) => writeln!(output, "{}", tables.answer(&call))?,
+            Some(call) => writeln!(output, "{}", held.answer(&call))?,
             None => {
                 writeln!(output, "bad line {}", place + 1)?;
                 break;

@@ -107,6 +107,7 @@ pub mod prompter {
 
     pub const PERMISSION_EMOJI: &str = "!";
 
+    #[derive(PartialEq)]
     pub enum PromptResponse {
         Allow,
         Deny,

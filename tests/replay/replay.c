@@ -206,6 +206,7 @@ struct replay {
     bool is_linked;         /* whether calls are the linked ones */
     uint64_t number;        /* the main's */
     uint64_t last, highest; /* the standby's */
+    uint32_t state, prompt; /* of the permission without a path */
 };
 
 static unsigned char *table_of(struct area *area)
@@ -749,6 +750,56 @@ static bool call_standbylist(struct replay *replay, struct line *line)
     return true;
 }
 
+static bool call_unit(struct replay *replay, struct line *line)
+{
+    uint32_t state, prompt;
+
+    if (!take_number(line, &state) || !take_number(line, &prompt) || prompt > 1 || !is_over(line))
+        return false;
+    replay->state = state;
+    replay->prompt = prompt;
+    puts("ok");
+    return true;
+}
+
+static bool call_unitrequest(struct replay *replay, struct line *line)
+{
+    struct told told = { 0, NULL, 0 };
+    uint32_t answer;
+
+    if (!take_number(line, &answer) || !is_over(line))
+        return false;
+    print_request(permissions_unit_request(&replay->state, replay->prompt, answer, &told.asked), &told);
+    return true;
+}
+
+static bool call_unitcheck(struct replay *replay, struct line *line)
+{
+    struct told told = { 0, NULL, 0 };
+    uint32_t answer;
+
+    if (!take_number(line, &answer) || !is_over(line))
+        return false;
+    print_check(permissions_unit_check(&replay->state, replay->prompt, answer, &told.asked), &told);
+    return true;
+}
+
+static bool call_unitrevoke(struct replay *replay, struct line *line)
+{
+    if (!is_over(line))
+        return false;
+    print_state(permissions_unit_revoke(&replay->state));
+    return true;
+}
+
+static bool call_unitstate(struct replay *replay, struct line *line)
+{
+    if (!is_over(line))
+        return false;
+    printf("state %" PRIu32 " prompt %" PRIu32 "\n", replay->state, replay->prompt);
+    return true;
+}
+
 static const struct call {
     const char *name;
     bool (*make)(struct replay *replay, struct line *line);
@@ -769,6 +820,11 @@ static const struct call {
     { "numbers", call_numbers },
     { "arrive", call_arrive },
     { "standbylist", call_standbylist },
+    { "unit", call_unit },
+    { "unitrequest", call_unitrequest },
+    { "unitrevoke", call_unitrevoke },
+    { "unitcheck", call_unitcheck },
+    { "unitstate", call_unitstate },
 };
 
 enum { CALLS = sizeof calls / sizeof calls[0] };
@@ -875,6 +931,7 @@ int main(int count, char **words)
         make_table(&replay.table);
         make_table(&replay.child);
         make_table(&replay.standby);
+        replay.state = PERMISSIONS_STATE_PROMPT;
         answer_script(&replay);
     }
     if (fflush(stdout) != 0 || ferror(stdout))

@@ -19,6 +19,8 @@ use Rattle.calls.specs.declared.Call.{Call}
 use Rattle.calls.specs.declared.Asked.{Asked}
 use Rattle.calls.specs.declared.Question.{Question}
 use Rattle.calls.specs.Calls.{Asks, Questions, Revokes}
+use Rattle.unit.specs.declared.UnitAsked.{UnitAsked}
+use Rattle.unit.specs.Calls.{AsksUnit, RevokesUnit}
 use Rattle.child.specs.declared.ChildMade.{ChildMade}
 use Rattle.child.specs.Calls.{CreatesChild}
 use Rattle.link.specs.declared.Sent.{Sent}
@@ -35,6 +37,7 @@ use Rattle.permissions.specs.Numbers.{
   outcomeNumber,
   answerNumber,
   askedNumber,
+  isOn,
   questionNumber,
   questionSize,
   listedNumber,
@@ -92,6 +95,18 @@ pub record ExportedChild (m c : List ℕ) (code : ℕ) (bytes ends responses cwd
   pub promise : CreatesChild m c code bytes ends responses cwd m′ c′ answered
   pub number : r ≡ outcomeNumber (answered .outcome)
   pub asked : told ≡ answered .asked
+
+-- ---- a permission without a path: s and s′ are the number of its state before and after the call
+
+-- whether the operator was asked
+pub record ExportedUnit (call : Call) (s prompt response s′ told : ℕ) (r : ℤ) : Type 0 where
+  pub answered : UnitAsked
+  pub promise : AsksUnit call s (isOn prompt) response s′ answered
+  pub number : r ≡ answerNumber (answered .answer)
+  pub asked : told ≡ askedNumber (answered .asked)
+
+abbrev pub ExportedUnitRevoke : ℕ → ℕ → ℤ → Type 0
+ExportedUnitRevoke s s′ r = Exported Answer answerNumber (RevokesUnit s s′) r
 
 -- ---- reading a table: 1, and then what it has
 

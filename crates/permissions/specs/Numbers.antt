@@ -1,6 +1,7 @@
 -- The numbers that the C program gets. Scope, "A call comes in": a refusal returns its number; states carry the Rust's numbers.
 use Prim.Native.Nat.{ℕ}
-use mathlib.Core.Bool.{Bool, true, false}
+use mathlib.Core.Bool.{Bool, true, false, not}
+use lib.Dec.{eqb}
 use lib.IntN.{ℤ, pos, negℤ}
 use Rattle.refusals.specs.declared.Refusal.{Refusal}
 use Rattle.refusals.specs.Refusals.{refusalNumber}
@@ -48,6 +49,10 @@ abbrev pub questionSize : Question → ℕ
 questionSize (question.Asks n) = n
 questionSize question.AsksNothing = 0
 questionSize (question.Refused cause) = 0
+
+-- a setting is on unless it is 0
+abbrev pub isOn : ℕ → Bool
+isOn n = not (eqb n 0)
 
 -- what stands at a place of a list: 1 if an entry is there, else 0; its kind's number, where its path begins, and how many bytes the path has
 abbrev pub listedNumber : Listed → ℤ

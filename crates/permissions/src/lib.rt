@@ -41,6 +41,7 @@ ghost use Rattle.permissions.specs.Exports.{
 
 pub mod arriving;
 pub mod linking;
+pub mod without_path;
 
 // ---- numbers
 

@@ -353,14 +353,14 @@ int32_t permissions_child(void *parent, size_t parent_size,
  * written, and the link knows nothing of it: a program that wants the state on its
  * standby sends it by its own way.
  *
- *   state          a check                         a request                a revoke
- *   Granted        passes                          returns it               leaves Prompt
- *   Prompt         asks, if the setting is not 0;  asks, whatever the       leaves it
- *                  else it fails with Prompt       setting
- *   any other      fails with it                   returns it               leaves it
- *   asked: Allow   leaves Granted and passes       leaves Granted
- *   asked: AllowAll leaves Granted and passes      leaves Denied
- *   asked: Deny    leaves Denied and fails         leaves Denied
+ *   state            a check                         a request                   a revoke
+ *   Granted          passes                          returns it                  leaves Prompt
+ *   Prompt           asks, if the setting is not 0;  asks, whatever the setting  leaves it
+ *                    else fails with Prompt
+ *   any other        fails with it                   returns it                  leaves it
+ *   asked: Allow     leaves Granted and passes       leaves Granted
+ *   asked: AllowAll  leaves Granted and passes       leaves Denied
+ *   asked: Deny      leaves Denied and fails         leaves Denied
  *
  * So whether the operator is to be asked is seen from the state:
  *

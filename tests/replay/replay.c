@@ -762,26 +762,29 @@ static bool call_unit(struct replay *replay, struct line *line)
     return true;
 }
 
-static bool call_unitrequest(struct replay *replay, struct line *line)
+/* A check or request without a path, and how its answer is printed. */
+static bool ask_unit(int32_t (*call)(uint32_t *state, uint32_t prompt, uint32_t answer, uint32_t *asked),
+                     void (*print)(int32_t result, const struct told *told), struct replay *replay, struct line *line)
 {
     struct told told = { 0, NULL, 0 };
     uint32_t answer;
+    int32_t result;
 
     if (!take_number(line, &answer) || !is_over(line))
         return false;
-    print_request(permissions_unit_request(&replay->state, replay->prompt, answer, &told.asked), &told);
+    result = call(&replay->state, replay->prompt, answer, &told.asked);
+    print(result, &told);
     return true;
+}
+
+static bool call_unitrequest(struct replay *replay, struct line *line)
+{
+    return ask_unit(permissions_unit_request, print_request, replay, line);
 }
 
 static bool call_unitcheck(struct replay *replay, struct line *line)
 {
-    struct told told = { 0, NULL, 0 };
-    uint32_t answer;
-
-    if (!take_number(line, &answer) || !is_over(line))
-        return false;
-    print_check(permissions_unit_check(&replay->state, replay->prompt, answer, &told.asked), &told);
-    return true;
+    return ask_unit(permissions_unit_check, print_check, replay, line);
 }
 
 static bool call_unitrevoke(struct replay *replay, struct line *line)

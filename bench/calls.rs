@@ -12,19 +12,10 @@
 use std::hint::black_box;
 use std::time::Instant;
 
-// The extracted Rust, as in tests/oracle/main.rs, with what must see its private items.
+// The extracted Rust, with what must see its private items.
 #[allow(dead_code)]
 mod read {
-    mod stubs {
-        include!("../tests/oracle/stubs.rs");
-    }
-    use stubs::*;
-
-    include!(env!("ORACLE_EXTRACT"));
-
-    pub mod calls {
-        include!("../tests/oracle/calls.rs");
-    }
+    include!("read.rs");
 
     pub mod measured {
         use super::calls::Table;

@@ -6,19 +6,10 @@
 
 use std::hint::black_box;
 
-// The extracted Rust, as in tests/oracle/main.rs.
+// The extracted Rust, with what must see its private items.
 #[allow(dead_code)]
 mod read {
-    mod stubs {
-        include!("../tests/oracle/stubs.rs");
-    }
-    use stubs::*;
-
-    include!(env!("ORACLE_EXTRACT"));
-
-    pub mod calls {
-        include!("../tests/oracle/calls.rs");
-    }
+    include!("read.rs");
 
     // A check that fails makes its text.
     #[unsafe(no_mangle)]

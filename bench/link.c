@@ -4,14 +4,24 @@
  *
  * The table has paths as a plant has them, those of bench/calls.rs, and one entry less than ENTRIES. A call brings the last: an insert,
  * a check or request that the operator allows, a child's item, an arrival. A revoke drops one. Each of sixteen paths has its turn, and
- * before each call the table and the numbers are set back, which `none` does alone. */
+ * before each call the table and the numbers are set back, which `none` does alone.
+ *
+ * An image is that of a table with all ENTRIES. A fresh standby takes it, or gets the same entries by as many records (`by-records`, which
+ * counts as one call). */
 #include "permissions.h"
 
 #include <stdio.h>
 #include <stdlib.h>
 #include <string.h>
 
-enum { TABLE = PERMISSIONS_TABLE_BYTES, RECORD = PERMISSIONS_RECORD_WORDS, PATHS = 16, PATH_ROOM = 64 };
+enum {
+    TABLE = PERMISSIONS_TABLE_BYTES,
+    RECORD = PERMISSIONS_RECORD_WORDS,
+    IMAGE = PERMISSIONS_IMAGE_WORDS,
+    ENTRIES = PERMISSIONS_MAX_ENTRIES,
+    PATHS = 16,
+    PATH_ROOM = 64
+};
 
 static unsigned char table[TABLE], before[TABLE], child[TABLE];
 static size_t before_size;
@@ -26,6 +36,25 @@ static struct turn {
     uint32_t record[RECORD];
     size_t record_size;
 } turns[PATHS];
+
+/* The table with all entries, the records that make it of a fresh one, and its image. */
+static struct {
+    unsigned char table[TABLE];
+    struct {
+        uint32_t words[RECORD];
+        size_t size;
+    } records[ENTRIES];
+    uint32_t image[IMAGE];
+    size_t image_size;
+} whole;
+
+static void must(int32_t result)
+{
+    if (result == 0)
+        return;
+    printf("result %d\n", (int)result);
+    exit(1);
+}
 
 /* ---- the calls */
 
@@ -117,38 +146,77 @@ static int32_t owed(struct turn *turn)
     return permissions_owed(entries - 2, entries, &some);
 }
 
+static int32_t image(struct turn *turn)
+{
+    (void)turn;
+    return permissions_linked_image(whole.table, TABLE, entries, whole.image, IMAGE, &whole.image_size);
+}
+
+static void begin(void)
+{
+    must(permissions_fresh(table, TABLE));
+    last = highest = 0;
+}
+
+static int32_t arrive_image(void)
+{
+    return permissions_arrive_image(table, TABLE, &last, &highest, whole.image, whole.image_size);
+}
+
+static int32_t taken(struct turn *turn)
+{
+    (void)turn;
+    begin();
+    return arrive_image() - PERMISSIONS_ARRIVAL_TAKEN;
+}
+
+static int32_t image_repeat(struct turn *turn)
+{
+    (void)turn;
+    last = highest = entries;
+    return arrive_image() - PERMISSIONS_ARRIVAL_REPEAT;
+}
+
+static int32_t by_records(struct turn *turn)
+{
+    int32_t result = 0;
+
+    (void)turn;
+    begin();
+    for (size_t i = 0; i < entries && result == 0; i++)
+        result = permissions_arrive(table, TABLE, &last, &highest, whole.records[i].words, whole.records[i].size);
+    return result;
+}
+
 /* Each gives 0, or for a revoke a state. */
 static const struct {
     const char *name;
     int32_t (*make)(struct turn *turn);
+    int needs_whole; /* the table with all entries */
 } calls[] = {
-    {"none", none},
-    {"insert", insert},
-    {"check", check},
-    {"request", request},
-    {"revoke", revoke},
-    {"switches", switches},
-    {"linked-insert", linked_insert},
-    {"linked-check", linked_check},
-    {"linked-request", linked_request},
-    {"linked-revoke", linked_revoke},
-    {"linked-switches", linked_switches},
-    {"linked-child", linked_child},
-    {"applied", applied},
-    {"repeat", repeat},
-    {"early", early},
-    {"owed", owed},
+    {"none", none, 0},
+    {"insert", insert, 0},
+    {"check", check, 0},
+    {"request", request, 0},
+    {"revoke", revoke, 0},
+    {"switches", switches, 0},
+    {"linked-insert", linked_insert, 0},
+    {"linked-check", linked_check, 0},
+    {"linked-request", linked_request, 0},
+    {"linked-revoke", linked_revoke, 0},
+    {"linked-switches", linked_switches, 0},
+    {"linked-child", linked_child, 0},
+    {"applied", applied, 0},
+    {"repeat", repeat, 0},
+    {"early", early, 0},
+    {"owed", owed, 0},
+    {"image", image, 1},
+    {"taken", taken, 1},
+    {"image-repeat", image_repeat, 1},
+    {"by-records", by_records, 1},
 };
 
 /* ---- the table */
-
-static void must(int32_t result)
-{
-    if (result == 0)
-        return;
-    printf("result %d\n", (int)result);
-    exit(1);
-}
 
 /* Path i of a plant, of a unit or of a pump. */
 static void write_path(char *to, unsigned long i, const char *machine)
@@ -182,6 +250,27 @@ static void fill(void)
     memcpy(before, table, before_size);
 }
 
+/* The whole table, its records and its image; by either a fresh standby must come to it. */
+static void fill_whole(void)
+{
+    char path[PATH_ROOM];
+    size_t size;
+
+    must(permissions_fresh(whole.table, TABLE));
+    number = 0;
+    for (unsigned long i = 0; i < entries; i++) {
+        write_path(path, i, "unit");
+        must(permissions_linked_insert(whole.table, TABLE, &number, kind(i), path, strlen(path), NULL, 0, whole.records[i].words,
+                                       RECORD, &whole.records[i].size));
+    }
+    size = (size_t)permissions_used(whole.table, TABLE);
+    must(image(NULL));
+    must(taken(NULL));
+    must(memcmp(table, whole.table, size));
+    must(by_records(NULL));
+    must(memcmp(table, whole.table, size));
+}
+
 static void set_back(void)
 {
     memcpy(table, before, before_size);
@@ -211,6 +300,8 @@ int main(int arguments, char **argument)
     repeats = strtoul(argument[3], NULL, 10);
     if (call == sizeof calls / sizeof calls[0] || entries < 3 || entries > PERMISSIONS_MAX_ENTRIES)
         return 2;
+    if (calls[call].needs_whole)
+        fill_whole();
     fill();
     for (unsigned long i = 0; i < PATHS; i++)
         prepare(&turns[i], i * (unsigned long)(entries - 1) / PATHS);

@@ -1,5 +1,5 @@
-/* What ./demo shows of main and standby: a main's changes over a bad link, what the standby makes of them, and the takeover. What the
- * link does is fixed below; all else comes from calls of permissions.h. */
+/* What ./demo shows of main and standby: a main's changes over a bad link, what the standby makes of them, a new standby that joins
+ * by an image, and the takeover. What the link does is fixed below; all else comes from calls of permissions.h. */
 #include "permissions.h"
 
 #include <stdio.h>
@@ -100,18 +100,41 @@ static int32_t do_carelessly(unsigned long k)
     return permissions_arrive(careless_table, TABLE, &before, &heard, sent[k].words, sent[k].size);
 }
 
-static int arrive(unsigned long k)
+/* What came, and what the standby says and has. */
+static int show(const char *came, int32_t result)
 {
     uint64_t owed;
-    int32_t result = permissions_arrive(standby_table, TABLE, &last, &highest, sent[k].words, sent[k].size);
 
-    if (stop("arrival", result) || stop("arrival", do_carelessly(k)) || stop("owed", permissions_owed(last, highest, &owed)))
+    if (stop("arrival", result) || stop("owed", permissions_owed(last, highest, &owed)))
         return 1;
-    printf("%-7lu%-15s%-6lu%s\n", k, permissions_arrival_name(result), (unsigned long)last, owed == 0 ? "nothing" : "some");
+    printf("%-7s%-15s%-6lu%s\n", came, permissions_arrival_name(result), (unsigned long)last, owed == 0 ? "nothing" : "some");
     return 0;
 }
 
-/* One step of the main, and the records that the link then brings, in its own sequence. */
+static int arrive(unsigned long k)
+{
+    char came[24];
+
+    snprintf(came, sizeof came, "%lu", k);
+    return stop("arrival", do_carelessly(k)) ||
+           show(came, permissions_arrive(standby_table, TABLE, &last, &highest, sent[k].words, sent[k].size));
+}
+
+/* The records that the link brings, in its own sequence. */
+static int bring(const char *numbers)
+{
+    if (*numbers == '\0')
+        puts("lost");
+    for (; *numbers != '\0'; numbers++) {
+        if (arrive((unsigned long)(*numbers - '0')))
+            return 1;
+        if (numbers[1] != '\0')
+            printf("%61s", "");
+    }
+    return 0;
+}
+
+/* One step of the main, and the records that the link then brings. */
 static int step(enum act what, const char *path, const char *brought)
 {
     uint64_t from = what == SEND_AGAIN ? last + 1 : number + 1;
@@ -128,21 +151,18 @@ static int step(enum act what, const char *path, const char *brought)
     else
         snprintf(numbers, sizeof numbers, "%lu to %lu", (unsigned long)from, (unsigned long)number);
     printf("  %-50s%-9s", did, numbers);
-    if (*brought == '\0')
-        puts("lost");
-    for (; *brought != '\0'; brought++) {
-        if (arrive((unsigned long)(*brought - '0')))
-            return 1;
-        if (brought[1] != '\0')
-            printf("%61s", "");
-    }
-    return 0;
+    return bring(brought);
+}
+
+static void print_columns(void)
+{
+    printf("  %-50s%-9s%-7s%-15s%-6s%s\n", "the main", "sends", "comes", "standby says", "has", "is owed");
 }
 
 static int over_a_bad_link(void)
 {
     puts("The link: the main sends each change with its number; the link loses, repeats and reorders them.\n");
-    printf("  %-50s%-9s%-7s%-15s%-6s%s\n", "the main", "sends", "comes", "standby says", "has", "is owed");
+    print_columns();
     return step(ASK, "", "1") ||
            step(GRANT, "/plant/hours", "") ||
            step(DENY, "/plant", "3") ||
@@ -155,6 +175,37 @@ static int over_a_bad_link(void)
            puts("\n  Applied: it was the next, and is done. Early: one before it is missing. Repeat: it was done before.") < 0;
 }
 
+/* ---- a new standby */
+
+/* The main's table with its number, as an image; and records that come behind it. */
+static int send_image(const char *brought)
+{
+    static uint32_t image[PERMISSIONS_IMAGE_WORDS];
+    size_t size;
+
+    if (stop("image", permissions_linked_image(main_table, TABLE, number, image, PERMISSIONS_IMAGE_WORDS, &size)))
+        return 1;
+    snprintf(did, sizeof did, "its table after change %lu, as an image of %lu words", (unsigned long)number, (unsigned long)size);
+    printf("  %-50s%-9s", did, "image");
+    if (show("image", permissions_arrive_image(standby_table, TABLE, &last, &highest, image, size)))
+        return 1;
+    printf("%61s", "");
+    return bring(brought);
+}
+
+static int the_swap(void)
+{
+    puts("\nThe swap: a new standby takes the old one's place. It has nothing, and the main no longer has the old records.\n");
+    last = highest = 0;
+    if (stop("fresh", permissions_fresh(standby_table, TABLE)))
+        return 1;
+    print_columns();
+    return step(GRANT, "/srv/report", "8") ||
+           send_image("3") ||
+           step(DENY, "/srv/dump", "9") ||
+           puts("\n  Taken: its table is now the image's, and it goes on with the next change. What the image has is a Repeat.") < 0;
+}
+
 /* ---- the takeover */
 
 static const char *answer(const unsigned char *table, const char *path)
@@ -164,7 +215,8 @@ static const char *answer(const unsigned char *table, const char *path)
 
 static int the_takeover(void)
 {
-    static const char *const paths[] = {"/plant/hours/unit1", "/plant/setpoints", "/srv/log/today", "/srv/keys", "/home/notes"};
+    static const char *const paths[] = {"/plant/hours/unit1", "/plant/setpoints", "/srv/log/today", "/srv/keys", "/home/notes",
+                                        "/srv/report/may", "/srv/dump"};
     int32_t main_size = permissions_used(main_table, TABLE), standby_size = permissions_used(standby_table, TABLE);
     size_t i;
 
@@ -181,5 +233,5 @@ static int the_takeover(void)
 int main(void)
 {
     return stop("fresh", permissions_fresh(main_table, TABLE)) || stop("fresh", permissions_fresh(standby_table, TABLE)) ||
-           stop("fresh", permissions_fresh(careless_table, TABLE)) || over_a_bad_link() || the_takeover();
+           stop("fresh", permissions_fresh(careless_table, TABLE)) || over_a_bad_link() || the_swap() || the_takeover();
 }

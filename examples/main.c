@@ -1,9 +1,11 @@
 /* The smallest complete main: makes the changes that standard input names, and sends their records to standard output; first of all
  * the last one that it has kept, since a power cut may have come before it was sent. With a number it sends all that it has kept from
- * that one on, and makes no change.
+ * that one on, and makes no change; with `image` it sends its table and number as an image, for a new standby. What it then writes is
+ * a FILE too, the shortest one.
  *
  * usage: main FILE <CHANGES >LINK
  *        main FILE NUMBER >LINK
+ *        main FILE image >LINK
  *
  * A line of CHANGES is `switches N`, `grant PATH`, `deny PATH`, `ignore PATH`, `revoke PATH`, or `check PATH ANSWER`, with the answer 0, 1
  * or 2 that the operator gives if asked. FILE is the unit's file of records. */
@@ -13,7 +15,7 @@
 #include <string.h>
 
 static uint64_t number; /* of the last change */
-static uint32_t records[PERMISSIONS_RECORD_WORDS];
+static uint32_t records[PERMISSIONS_IMAGE_WORDS]; /* room for an image too */
 static size_t records_size;
 
 /* Keeps what the call has recorded, and then sends it: never the other way round. These calls make one record or none. */
@@ -66,6 +68,15 @@ static int32_t change(const char *what, const char *argument, uint32_t answer)
     return PERMISSIONS_REFUSAL_UNKNOWN;
 }
 
+static void send_image(void)
+{
+    int32_t result = permissions_linked_image(table, sizeof table, number, records, PERMISSIONS_IMAGE_WORDS, &records_size);
+
+    if (result < 0)
+        stop(permissions_refusal_name(result));
+    write_frame(stdout, records, records_size);
+}
+
 /* Sends what was kept from this number on; and the last record, which stays in the record space. */
 static uint64_t from = PERMISSIONS_MAX_NUMBER + 1;
 
@@ -81,13 +92,16 @@ int main(int arguments, char **argument)
 {
     char line[1200], what[16], path[1100];
     unsigned answer;
+    int sends_image = arguments == 3 && strcmp(argument[2], "image") == 0;
 
     if (arguments != 2 && arguments != 3)
-        stop("usage: main FILE [NUMBER]");
-    if (arguments == 3)
+        stop("usage: main FILE [NUMBER | image]");
+    if (arguments == 3 && !sends_image)
         from = strtoul(argument[2], NULL, 10);
     start(argument[1], send_again);
     number = last;
+    if (sends_image)
+        send_image();
     if (arguments == 2 && records_size > 0)
         write_frame(stdout, records, records_size);
     while (arguments == 2 && fgets(line, sizeof line, stdin) != NULL) {

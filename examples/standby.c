@@ -1,5 +1,5 @@
-/* The smallest complete standby: takes the records that come on standard input, and writes to standard output the number of the change
- * from which on it wants them again, a line each time that one is missing.
+/* The smallest complete standby: takes the records and images that come on standard input, and writes to standard output the number of
+ * the change from which on it wants records again, a line each time that one is missing.
  *
  * usage: standby FILE <LINK >WANTED
  *
@@ -21,11 +21,11 @@ static void ask_for_next(void)
 static void arrive(const uint32_t *record, size_t size)
 {
     uint64_t heard = highest;
-    int32_t result = permissions_arrive(table, sizeof table, &last, &highest, record, size);
+    int32_t result = hand_in(record, size);
 
     if (result < 0)
         stop(permissions_refusal_name(result));
-    if (result == PERMISSIONS_ARRIVAL_APPLIED || highest > heard)
+    if (result == PERMISSIONS_ARRIVAL_APPLIED || result == PERMISSIONS_ARRIVAL_TAKEN || highest > heard)
         keep(record, size);
     if (result == PERMISSIONS_ARRIVAL_EARLY)
         ask_for_next();
@@ -33,7 +33,7 @@ static void arrive(const uint32_t *record, size_t size)
 
 int main(int arguments, char **argument)
 {
-    uint32_t record[PERMISSIONS_RECORD_WORDS];
+    static uint32_t record[PERMISSIONS_IMAGE_WORDS];
     size_t size;
     int got;
 

@@ -5,7 +5,7 @@
 #include <stdlib.h>
 #include <unistd.h>
 
-enum { RECORD_WORDS = PERMISSIONS_RECORD_WORDS };
+enum { MOST_WORDS = PERMISSIONS_IMAGE_WORDS, IMAGE_KIND = 5 /* the top four bits of an image's first word */ };
 
 unsigned char table[PERMISSIONS_TABLE_BYTES];
 uint64_t last, highest;
@@ -78,7 +78,7 @@ int read_frame(FILE *from, uint32_t *record, size_t *size)
     if (first == EOF)
         return 0;
     ungetc(first, from);
-    if (!read_word(from, &count) || count < 1 || count > RECORD_WORDS)
+    if (!read_word(from, &count) || count < 1 || count > MOST_WORDS)
         return -2;
     sum = checksum(0xFFFFFFFFu, count);
     for (i = 0; i < count; i++) {
@@ -90,6 +90,15 @@ int read_frame(FILE *from, uint32_t *record, size_t *size)
         return -2;
     *size = count;
     return found == ~sum ? 1 : -1;
+}
+
+/* ---- arrivals */
+
+int32_t hand_in(const uint32_t *record, size_t size)
+{
+    if (size > 0 && record[0] >> 28 == IMAGE_KIND)
+        return permissions_arrive_image(table, sizeof table, &last, &highest, record, size);
+    return permissions_arrive(table, sizeof table, &last, &highest, record, size);
 }
 
 /* ---- the file of records */
@@ -117,7 +126,7 @@ static void cut_off(long end)
 
 void start(const char *name, applied_record *each)
 {
-    uint32_t record[RECORD_WORDS];
+    static uint32_t record[MOST_WORDS];
     size_t size;
     long end = 0;
     int got;
@@ -126,10 +135,10 @@ void start(const char *name, applied_record *each)
     if (kept == NULL || permissions_fresh(table, sizeof table) != 0)
         stop("there is no file of records");
     while ((got = read_frame(kept, record, &size)) == 1) {
-        int32_t result = permissions_arrive(table, sizeof table, &last, &highest, record, size);
+        int32_t result = hand_in(record, size);
         if (result < 0)
             stop(permissions_refusal_name(result));
-        if (result == PERMISSIONS_ARRIVAL_APPLIED && each != NULL)
+        if ((result == PERMISSIONS_ARRIVAL_APPLIED || result == PERMISSIONS_ARRIVAL_TAKEN) && each != NULL)
             each(record, size);
         end = ftell(kept);
     }

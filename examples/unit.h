@@ -10,23 +10,26 @@
 extern unsigned char table[PERMISSIONS_TABLE_BYTES];
 extern uint64_t last, highest;
 
-/* Called with each record of the file that was applied, in sequence. */
+/* Hands a record or an image to permissions_arrive or permissions_arrive_image, with the unit's table and numbers. */
+int32_t hand_in(const uint32_t *record, size_t size);
+
+/* Called with each record of the file that was applied and each image that was taken, in sequence. */
 typedef void applied_record(const uint32_t *record, size_t size);
 
-/* Opens the unit's file of records and hands each to permissions_arrive: then table, last and highest stand as they stood. What a
+/* Opens the unit's file of records and images and hands each in: then table, last and highest stand as they stood. What a
  * power cut left of a frame at the file's end is cut off. The file must be there, be it empty: a unit that began anew unasked
  * would number its changes from 1 again. `each` may be NULL. */
 void start(const char *name, applied_record *each);
 
-/* Adds a record to the file, and comes back when it is there to stay. */
+/* Adds a record or an image to the file, and comes back when it is there to stay. */
 void keep(const uint32_t *record, size_t size);
 
-/* Writes a record as a frame; reads one. A frame is the count of the record's words, the words, and a CRC-32 of all these, each a
+/* Writes a record or an image as a frame; reads one. A frame is the count of the words, the words, and a CRC-32 of all these, each a
  * 32-bit number with the most significant byte first. */
 void write_frame(FILE *to, const uint32_t *record, size_t size);
 
 /* 1: a frame; 0: the end; -1: a damaged frame, which is passed over; -2: the end comes inside a frame, or there is no telling where
- * it ends. `record` has room for PERMISSIONS_RECORD_WORDS. */
+ * it ends. `record` has room for PERMISSIONS_IMAGE_WORDS. */
 int read_frame(FILE *from, uint32_t *record, size_t *size);
 
 /* Prints the change number and the entries. */

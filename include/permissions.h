@@ -14,9 +14,9 @@
  * an area that is written must overlap no other one of the same call. Contents
  * may be anything. A lent number (uint32_t *asked, size_t *text_size) must not be
  * NULL. Those that take a result are written by every call, by a refused one too:
- * 0 there, but for the counts of a child call. The numbers of the link (uint64_t
- * *number, *last, *highest) and the state of a permission without a path (uint32_t
- * *state) are kept, as a table is, and take no result.
+ * 0 there, but for the counts of a child call and the size of an image. The numbers
+ * of the link (uint64_t *number, *last, *highest) and the state of a permission
+ * without a path (uint32_t *state) are kept, as a table is, and take no result.
  *
  * Results. A negative result -n is refusal n (enum permissions_refusal). Each
  * refusal comes in exactly its condition, when the earlier ones that apply do not
@@ -52,9 +52,9 @@ extern "C" {
 #endif
 
 #define PERMISSIONS_VERSION_MAJOR 0
-#define PERMISSIONS_VERSION_MINOR 4
+#define PERMISSIONS_VERSION_MINOR 5
 #define PERMISSIONS_VERSION_PATCH 0
-#define PERMISSIONS_VERSION "0.4.0"
+#define PERMISSIONS_VERSION "0.5.0"
 
 /* The compiler warns where the result of a call is dropped, if it can. */
 #if defined(__GNUC__)
@@ -71,6 +71,9 @@ extern "C" {
 
 /* The words of the space for records; for a child list as many for each item. More may be lent, and is left alone. */
 #define PERMISSIONS_RECORD_WORDS 344u
+
+/* The words of the largest image. Less space will do for an image that is shorter. */
+#define PERMISSIONS_IMAGE_WORDS 11351u
 
 /* Limits. */
 #define PERMISSIONS_MAX_ENTRIES 256u
@@ -141,18 +144,19 @@ enum permissions_child_code {
 /* Answers of an arrival. */
 enum permissions_arrival {
     PERMISSIONS_ARRIVAL_APPLIED = 0, /* the change was the next one, and is done */
-    PERMISSIONS_ARRIVAL_REPEAT = 1,  /* it had been done before */
-    PERMISSIONS_ARRIVAL_EARLY = 2    /* one before it is missing; nothing is done, and it must come again */
+    PERMISSIONS_ARRIVAL_REPEAT = 1,  /* it had been done before; of an image, nothing in it is new */
+    PERMISSIONS_ARRIVAL_EARLY = 2,   /* one before it is missing; nothing is done, and it must come again */
+    PERMISSIONS_ARRIVAL_TAKEN = 3    /* of an image: the table is now the image's */
 };
 
 /* Refusals, as results, in the order in which they are looked for. 12 is for a permission without a path alone, 9 for
- * linked calls, and 11 for records that arrive. */
+ * linked calls, 11 for records that arrive, and 13 for images that do. */
 enum permissions_refusal {
     PERMISSIONS_REFUSAL_NO_TABLE = -1,          /* the memory is too small for a table, or holds none; memory about to get a
                                                    fresh or child table need only be large enough; or a standby's last
                                                    number is above its highest */
-    PERMISSIONS_REFUSAL_NO_SPACE = -2,          /* the text space is under 1,041 bytes, or the record space under 344 words for
-                                                   each child item (at least 344) */
+    PERMISSIONS_REFUSAL_NO_SPACE = -2,          /* the text space is under 1,041 bytes, the record space under 344 words for
+                                                   each child item (at least 344), or the image space too short for the image */
     PERMISSIONS_REFUSAL_UNKNOWN_STATE = -12,    /* the state of a permission without a path is above 5 */
     PERMISSIONS_REFUSAL_UNKNOWN = -3,           /* an answer, mode, kind or child code is unknown, switches are above 31, or a
                                                    child's items or answers are not in order */
@@ -163,9 +167,10 @@ enum permissions_refusal {
     PERMISSIONS_REFUSAL_RESOLVED_TOO_LONG = -7, /* the resolved path is over 1,024 bytes */
     PERMISSIONS_REFUSAL_TABLE_FULL = -8,        /* an entry would be added, and there are 256, or the sum of path lengths
                                                    would be over 32,768 bytes */
-    PERMISSIONS_REFUSAL_NUMBERS_USED_UP = -9,   /* a recorded act needs a number above 16,777,215 */
+    PERMISSIONS_REFUSAL_NUMBERS_USED_UP = -9,   /* a recorded act needs a number above 16,777,215, or an image has one */
     PERMISSIONS_REFUSAL_ESCALATION = -10,       /* a child asks for more than its parent passes */
-    PERMISSIONS_REFUSAL_MALFORMED_RECORD = -11  /* a record is malformed */
+    PERMISSIONS_REFUSAL_MALFORMED_RECORD = -11, /* a record is malformed */
+    PERMISSIONS_REFUSAL_MALFORMED_IMAGE = -13   /* an image is malformed, or its content is no table */
 };
 
 /* ---- a table ---- */
@@ -399,16 +404,17 @@ int32_t permissions_unit_revoke(uint32_t *state);
  * A standby keeps a table of its own and two numbers, all lent with each arrival
  * and kept together:
  *
- *   last      the number of the last change that was applied: n
- *   highest   the highest number in any record that was not refused: h
+ *   last      the number of the last change that the table has: n
+ *   highest   the highest number in any record or image that was not refused: h
  *
  * It begins with a fresh table and both numbers 0, and hands every record that
  * comes over the link to permissions_arrive, in whatever order, as often as it
  * comes. Records may be lost, repeated and reordered: at any time the table is the
  * main's table after change n, and n is the greatest number for which changes 1 to
- * n came in that sequence, with anything between. (That is proved of every list of
- * the main's calls and every list of arrivals, as long as the link alters no
- * record and invents none: a checksum on the wire is the program's.)
+ * n came in that sequence, with anything between; where an image was taken, n is
+ * counted on from it (see "images"). (That is proved of every list of the main's
+ * calls and every list of arrivals, as long as the link alters no record or image
+ * and invents none: a checksum on the wire is the program's.)
  *
  *     static uint64_t last, highest;
  *     result = permissions_arrive(table, sizeof table, &last, &highest, record, record_size);
@@ -593,6 +599,73 @@ int32_t permissions_linked_child(void *parent, size_t parent_size, uint64_t *num
                                  uint32_t *records, size_t records_space,
                                  uint32_t *asked, size_t *records_size);
 
+/* ---- the link: images ----
+ *
+ * A standby that joins late, a swapped one say, has none of the old records. So the
+ * main can write its whole table, with its number, as one image:
+ *
+ *     static uint32_t image[PERMISSIONS_IMAGE_WORDS];
+ *     if (permissions_linked_image(table, sizeof table, number, image, PERMISSIONS_IMAGE_WORDS, &image_size) == 0)
+ *         send_to_standby(image, image_size);
+ *
+ * A standby whose last number is below the image's takes table and number, whatever
+ * it had, and goes on with the next change. Any other has no less than the image, and
+ * answers Repeat. The first word's top four bits tell an image (5) from a record (1):
+ *
+ *     if (words_size > 0 && words[0] >> 28 == 5)
+ *         result = permissions_arrive_image(table, sizeof table, &last, &highest, words, words_size);
+ *     else
+ *         result = permissions_arrive(table, sizeof table, &last, &highest, words, words_size);
+ *
+ * Images may be lost, repeated and reordered like records and among them: at any
+ * time the table is the main's table after change n, and n is the greatest number
+ * reached in sequence from the last image taken (proved with the claim above). A
+ * change that the image has and the standby never got is a Repeat from then on.
+ *
+ * An image is 32-bit words, as a record is; unused bits and bytes are zero:
+ *
+ *   word    kind  below the kind, from the highest bit on
+ *   number  5     zero (4 bits), the main's number (24 bits): 0 to 16,777,215
+ *   table   6     zero (11 bits), count of entries (9 bits): 0 to 256, marks (3 bits), switches (5 bits)
+ *   entry   7     zero (10 bits), enum permissions_kind (2 bits), the path's length (16 bits): 1 to 1,024
+ *   path    3     zero (4 bits), three bytes of the path (24 bits), the first highest
+ *
+ * It begins with one number word and one table word. For each entry, in list order,
+ * an entry word and its path words follow, (n + 2) / 3 for n bytes, and nothing
+ * behind the last. Paths are resolved ones, at most 32,768 bytes together, and the
+ * marks are exactly those of the entries' kinds. Anything else is malformed, and a
+ * table with its number has one image. The list D /z, G /c with the number 2:
+ *
+ *   50000002  number: 2
+ *   60000220  table: 2 entries, mark 1, no switch
+ *   70010002  entry: flag-denied, 2 bytes
+ *   302F7A00  path: '/', 'z', and a byte that is not used
+ *   70000002  entry: granted, 2 bytes
+ *   302F6300  path: '/', 'c'
+ */
+
+/* Writes the image of the main's table. Table and number are not changed.
+ *   memory, memory_size   the main's table
+ *   number                the main's number, by value
+ *   image, image_space    where the image goes, from the start; no more of it is touched. The space counts words, not bytes
+ *   image_size            how many words the image takes, also where it is refused by 2 or 9, and 0 under 1. So with a space
+ *                         of 0 words the call is refused by 2, and says the size
+ * Result: 0; refusals 1, 2 where the space is shorter than this image, and 9 where number is above PERMISSIONS_MAX_NUMBER. */
+PERMISSIONS_MUST_USE
+int32_t permissions_linked_image(const void *memory, size_t memory_size, uint64_t number,
+                                 uint32_t *image, size_t image_space, size_t *image_size);
+
+/* Takes an image, if it has more than the standby.
+ *   memory, memory_size   the standby's table
+ *   last, highest         the standby's numbers; a refused arrival leaves them
+ *   image, image_size     the words of one image, all of them and no more; the size counts words
+ * Result: 3 (enum permissions_arrival) where last is below the image's number: the table is then the image's, last its
+ * number, and highest too if it was lower; 1 where it is not, and nothing has changed; refusals 1 and 13. An image with the
+ * number 0 is never taken. */
+PERMISSIONS_MUST_USE
+int32_t permissions_arrive_image(void *memory, size_t memory_size, uint64_t *last, uint64_t *highest,
+                                 const uint32_t *image, size_t image_size);
+
 /* ---- names ---- */
 
 /* The name of a state, or "unknown". */
@@ -628,6 +701,7 @@ static inline const char *permissions_arrival_name(int32_t result)
     case PERMISSIONS_ARRIVAL_APPLIED: return "Applied";
     case PERMISSIONS_ARRIVAL_REPEAT: return "Repeat";
     case PERMISSIONS_ARRIVAL_EARLY: return "Early";
+    case PERMISSIONS_ARRIVAL_TAKEN: return "Taken";
     default: return "unknown";
     }
 }
@@ -637,7 +711,7 @@ static inline const char *permissions_refusal_name(int32_t result)
 {
     switch (result) {
     case PERMISSIONS_REFUSAL_NO_TABLE: return "no table";
-    case PERMISSIONS_REFUSAL_NO_SPACE: return "text or record space too small";
+    case PERMISSIONS_REFUSAL_NO_SPACE: return "text, record or image space too small";
     case PERMISSIONS_REFUSAL_UNKNOWN_STATE: return "unknown state";
     case PERMISSIONS_REFUSAL_UNKNOWN: return "unknown number or items out of order";
     case PERMISSIONS_REFUSAL_EMPTY_PATH: return "empty path";
@@ -648,6 +722,7 @@ static inline const char *permissions_refusal_name(int32_t result)
     case PERMISSIONS_REFUSAL_NUMBERS_USED_UP: return "change numbers used up";
     case PERMISSIONS_REFUSAL_ESCALATION: return "child asks for more than its parent passes";
     case PERMISSIONS_REFUSAL_MALFORMED_RECORD: return "malformed record";
+    case PERMISSIONS_REFUSAL_MALFORMED_IMAGE: return "malformed image";
     default: return result < 0 ? "unknown refusal" : "not refused";
     }
 }

@@ -377,21 +377,34 @@ static void a_main_with_children(void)
     list(child, sizeof child);
 }
 
-/* One arrival, with the standby's numbers and what is owed after it. */
-static void arrive(const uint32_t *record, size_t size, uint64_t *last, uint64_t *highest)
+/* An arrival's answer, with the standby's numbers and what is owed after it. */
+static void show_arrival(int32_t result, uint64_t last, uint64_t highest)
 {
-    int32_t result = permissions_arrive(table, sizeof table, last, highest, record, size);
     uint64_t owed;
 
     if (result < 0)
         printf("refused %d, %s", (int)-result, permissions_refusal_name(result));
     else
         printf("%s", permissions_arrival_name(result));
-    printf(": last %u, highest %u, ", (unsigned)*last, (unsigned)*highest);
-    if (permissions_owed(*last, *highest, &owed) == 0)
+    printf(": last %u, highest %u, ", (unsigned)last, (unsigned)highest);
+    if (permissions_owed(last, highest, &owed) == 0)
         puts(owed == 0 ? "nothing owed" : "some owed");
     else
         puts("owed refused");
+}
+
+static void arrive(const uint32_t *record, size_t size, uint64_t *last, uint64_t *highest)
+{
+    int32_t result = permissions_arrive(table, sizeof table, last, highest, record, size);
+
+    show_arrival(result, *last, *highest);
+}
+
+static void arrive_image(const uint32_t *image, size_t size, uint64_t *last, uint64_t *highest)
+{
+    int32_t result = permissions_arrive_image(table, sizeof table, last, highest, image, size);
+
+    show_arrival(result, *last, *highest);
 }
 
 /* Two records, the second first and the first twice. */
@@ -411,6 +424,37 @@ static void a_standby(void)
     arrive(NULL, 0, &last, &highest);
     last = 3;
     arrive(one, 3, &last, &highest);
+}
+
+/* A main's table after change 2 as an image, for a standby that has none of the records; then the first one late, and the next. */
+static void an_image(void)
+{
+    static const uint32_t one[] = {0x11000001, 0x20000002, 0x302F6300}, three[] = {0x15000003, 0x40000010};
+    static uint32_t image[PERMISSIONS_IMAGE_WORDS];
+    uint64_t last = 0, highest = 0;
+    size_t size, i;
+
+    puts("-- an image");
+    fresh();
+    insert(PERMISSIONS_KIND_GRANTED, "/c");
+    insert(PERMISSIONS_KIND_FLAG_DENIED, "/z");
+    show("an image in no space", permissions_linked_image(table, sizeof table, 2, NULL, 0, &size));
+    printf("it takes %u words\n", (unsigned)size);
+    show("number 16777216", permissions_linked_image(table, sizeof table, PERMISSIONS_MAX_NUMBER + 1u, image,
+                                                     PERMISSIONS_IMAGE_WORDS, &size));
+    must("image", permissions_linked_image(table, sizeof table, 2, image, PERMISSIONS_IMAGE_WORDS, &size));
+    printf("image:");
+    for (i = 0; i < size; i++)
+        printf(" %08X", (unsigned)image[i]);
+    printf("\n");
+
+    fresh();
+    arrive_image(image, size - 1, &last, &highest);
+    arrive_image(image, size, &last, &highest);
+    arrive(one, 3, &last, &highest);
+    arrive(three, 2, &last, &highest);
+    arrive_image(image, size, &last, &highest);
+    list(table, sizeof table);
 }
 
 /* A table is saved as the bytes that it takes, and comes back as the same table. */
@@ -510,6 +554,7 @@ int main(void)
     a_main();
     a_main_with_children();
     a_standby();
+    an_image();
     saving();
     a_full_table();
     a_permission_without_a_path();

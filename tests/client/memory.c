@@ -9,7 +9,8 @@ enum { SIZE = PERMISSIONS_TABLE_BYTES };
 
 static unsigned char table[SIZE], before[SIZE], child[SIZE];
 static char text[PERMISSIONS_TEXT_BYTES];
-static uint32_t asked, number, second, third;
+static uint32_t asked, number, second, third, image[2] = {0x50000001, 0x60000000};
+static uint64_t last, highest;
 static size_t start, size;
 
 /* One call on memory of a size, by its number; -100 behind the last. */
@@ -32,6 +33,9 @@ static int32_t call(int which, size_t lent)
     case 13: return permissions_used(table, lent);
     case 14: return permissions_head(table, lent, &number, &second, &third);
     case 15: return permissions_entry(table, lent, 0, &number, &start, &size);
+    case 16: return permissions_linked_image(table, lent, 1, NULL, 0, &size); /* 1 before 2 */
+    case 17: return permissions_arrive_image(table, lent, &last, &highest, image, 2);
+    case 18: return permissions_arrive_image(table, lent, &last, &highest, image, 1); /* 1 before 13 */
     default: return -100;
     }
 }
@@ -47,7 +51,7 @@ static void all_refused(const char *what, size_t lent)
     memcpy(before, table, sizeof table);
     for (which = 0; (result = call(which, lent)) != -100; which++) {
         refused += result == PERMISSIONS_REFUSAL_NO_TABLE;
-        changed += memcmp(before, table, sizeof table) != 0 || child[0] != 0x55 || text[0] != '.';
+        changed += memcmp(before, table, sizeof table) != 0 || child[0] != 0x55 || text[0] != '.' || last + highest != 0;
     }
     printf("%s: %d of %d calls refused by 1, %d changed something\n", what, refused, which, changed);
 }

@@ -15,8 +15,8 @@ static ucontext_t outside, inside;
 static unsigned char table[PERMISSIONS_TABLE_BYTES], child[PERMISSIONS_TABLE_BYTES];
 static char text[PERMISSIONS_TEXT_BYTES], relative[PERMISSIONS_MAX_PATH_BYTES], directory[PERMISSIONS_MAX_PATH_BYTES];
 static size_t relative_size;
-static uint32_t number, more, last, modem, records[2 * PERMISSIONS_RECORD_WORDS];
-static size_t size, start, words;
+static uint32_t number, more, last, modem, records[2 * PERMISSIONS_RECORD_WORDS], image[PERMISSIONS_IMAGE_WORDS];
+static size_t size, start, words, image_words;
 static uint64_t change, applied, highest, owed;
 static volatile int32_t result;
 
@@ -99,6 +99,14 @@ static void linked_child(void)
                                       answers, 2, directory, 500, records, 2 * PERMISSIONS_RECORD_WORDS, &number, &words);
 }
 static void arrive(void) { result = permissions_arrive(child, sizeof child, &applied, &highest, records, words); }
+static void linked_image(void)
+{
+    result = permissions_linked_image(table, sizeof table, change, image, PERMISSIONS_IMAGE_WORDS, &image_words);
+}
+static void arrive_image(void)
+{
+    result = permissions_arrive_image(child, sizeof child, &applied, &highest, image, image_words);
+}
 static void say_owed(void) { result = permissions_owed(applied, highest, &owed); }
 static void unit_check(void) { result = permissions_unit_check(&modem, 1, 1, &number); }
 static void unit_request(void) { result = permissions_unit_request(&modem, 1, 1, &number); }
@@ -117,6 +125,7 @@ static const struct {
              {"linked_check_all", linked_check_all}, {"linked_request", linked_request},
              {"linked_request_all", linked_request_all}, {"linked_revoke", linked_revoke},
              {"linked_revoke_all", linked_revoke_all}, {"linked_child", linked_child}, {"arrive", arrive}, {"owed", say_owed},
+             {"linked_image", linked_image}, {"arrive_image", arrive_image},
              {"unit_check", unit_check}, {"unit_request", unit_request}, {"unit_revoke", unit_revoke}};
 
 /* The bytes of a fresh stack that a call touches. */
@@ -160,6 +169,8 @@ static void fill(void)
     modem = PERMISSIONS_STATE_PROMPT;
     result = permissions_linked_insert(table, sizeof table, &change, PERMISSIONS_KIND_FLAG_DENIED, relative, relative_size,
                                        directory, 500, records, PERMISSIONS_RECORD_WORDS, &words);
+    /* the image after it, for the same standby */
+    result = permissions_linked_image(table, sizeof table, change, image, PERMISSIONS_IMAGE_WORDS, &image_words);
     memcpy(table, child, sizeof table);
 }
 

@@ -1,7 +1,13 @@
 /* Faults that a build with -DBREAK puts into what a call did, one at a time, by a third argument: hostile CALLS SEED FAULT.
- * From FIRST_WITHOUT_MODEL to LAST_WITHOUT_MODEL nothing is held against the model, so that what calls say of each other
- * must notice the fault. tests/hostile-test sees that each up to LAST_FAULT is noticed. */
-enum { FIRST_BROKEN_CALL = 1000, FIRST_WITHOUT_MODEL = 59, LAST_WITHOUT_MODEL = 77, LAST_FAULT = 82 };
+ * From FIRST_WITHOUT_MODEL to LAST_WITHOUT_MODEL, and from IMAGE_WITHOUT_MODEL on, nothing is held against the model, so that
+ * what calls say of each other must notice the fault. tests/hostile-test sees that each up to LAST_FAULT is noticed. */
+enum {
+    FIRST_BROKEN_CALL = 1000,
+    FIRST_WITHOUT_MODEL = 59,
+    LAST_WITHOUT_MODEL = 77,
+    IMAGE_WITHOUT_MODEL = 127,
+    LAST_FAULT = 136
+};
 
 static unsigned long fault;
 
@@ -119,6 +125,155 @@ static void break_standby(int32_t result)
     }
 }
 
+/* ---- images */
+
+/* An image's writing, or its arrival, with this one result. */
+static int writes_image(int32_t result, int32_t one)
+{
+    return current == LINKED_IMAGE && result == one;
+}
+
+static int takes_image(int32_t result, int32_t one)
+{
+    return current == ARRIVE_IMAGE && result == one;
+}
+
+/* Whether this one thing is wrong with the image that arrives. */
+static int is_wrong_by(uint32_t wrong)
+{
+    return model_wrong_image(turn.words, turn.words_size) == wrong;
+}
+
+/* The count of entries that an image says. */
+static uint32_t image_count(void)
+{
+    return word_in(WORDS, 1) >> 8 & 511;
+}
+
+static void keep_old_count(void)
+{
+    memcpy(areas[MEMORY].start, standby_slot.bytes, 2);
+}
+
+static void set_size(int area, size_t size)
+{
+    memcpy(areas[area].start, &size, sizeof size);
+}
+
+/* Exchanges the kinds P and I, as acts have them, in a table or in an image. */
+static void exchange_in_table(void)
+{
+    uint8_t *entry = areas[MEMORY].start + 4;
+
+    for (uint32_t left = image_count(); left > 0; left--) {
+        *entry ^= *entry > KIND_D;
+        entry += 3 + entry[1] * 256 + entry[2];
+    }
+}
+
+static void exchange_in_image(void)
+{
+    for (size_t i = 2; i < size_in(NUMBER); i++) {
+        uint32_t word = word_in(IMAGE, i);
+        if (word >> 28 == 7 && (word >> 17 & 1) != 0)
+            change(IMAGE, 4 * i + 2); /* bit 16 */
+    }
+}
+
+/* An image with the number n is taken once more. */
+static int32_t take_at_n(int32_t result)
+{
+    uint64_t last = turn.had.last - 1, highest = last;
+
+    if (!takes_image(result, REPEAT) || turn.had.last == 0 || arriving_number() != turn.had.last)
+        return result;
+    return permissions_arrive_image(turn.memory, turn.memory_size, &last, &highest, turn.words, turn.words_size);
+}
+
+/* Whether the table has a path of 1,024 bytes, by the model. */
+static int has_longest_path(void)
+{
+    for (size_t i = 0; i < turn.after.count; i++)
+        if (turn.after.entries[i].path.size == MAX_PATH)
+            return 1;
+    return 0;
+}
+
+/* Faults of images in the lent areas. */
+static void break_image_areas(int32_t result)
+{
+    int taken = takes_image(result, TAKEN), written = writes_image(result, 0);
+
+    switch (fault) {
+    case 83: if (taken) keep_old_count(); break;                                   /* the old table's tail */
+    case 84: if (taken) set_long(LAST, turn.had.last); break;                      /* n not set */
+    case 85: if (taken) set_long(LAST, long_in(LAST) + 1); break;                  /* n raised by one */
+    case 86: if (taken) set_long(HIGHEST, turn.had.highest); break;                /* h left below n */
+    case 87: if (taken) set_long(HIGHEST, long_in(LAST)); break;                   /* h falls to n */
+    case 88: if (taken) change(MEMORY, areas[MEMORY].size - 1); break;             /* a byte behind the table */
+    case 89: if (taken) exchange_in_table(); break;                                /* P for I */
+    case 90: if (takes_image(result, -13)) change(MEMORY, 2); break;               /* a refused image changes a byte */
+    case 91: if (takes_image(result, -13)) set_long(HIGHEST, turn.had.highest + 1); break; /* h raised by a refusal */
+    case 92: if (takes_image(result, REPEAT)) change(MEMORY, 2); break;            /* a repeat changes a byte */
+    case 93: if (written) change(IMAGE, 0); break;                                 /* another number */
+    case 94: if (written) change(IMAGE, 4 * size_in(NUMBER)); break;               /* a word behind the image */
+    case 95: if (writes_image(result, -2)) change(IMAGE, 0); break;                /* a word written, though refused by 2 */
+    case 96: if (writes_image(result, -9)) change(IMAGE, 0); break;                /* the same by 9 */
+    case 97: if (writes_image(result, -2)) set_size(NUMBER, 0); break;             /* no size told under 2 */
+    case 98: if (writes_image(result, -9)) set_size(NUMBER, 0); break;             /* nor under 9 */
+    case 99: if (writes_image(result, -1)) change(NUMBER, 0); break;               /* a size told under 1 */
+    case 100: if (written) change(MEMORY, 2); break;                               /* a byte that is only read */
+    case 101: if (written) exchange_in_image(); break;                             /* P for I */
+    case 102: if (written) change(IMAGE, 4 * size_in(NUMBER) - 4); break;          /* another byte in the last word */
+    case 127: if (taken) keep_old_count(); break;                                  /* the old table's tail */
+    case 128: if (taken) set_long(LAST, turn.had.last); break;                     /* n not set */
+    case 129: if (taken) set_long(HIGHEST, turn.had.highest); break;               /* h left below n */
+    case 130: if (taken) change(MEMORY, 8); break;                                 /* another path */
+    case 131: if (takes_image(result, -13)) change(MEMORY, 2); break;              /* a refused image changes a byte */
+    case 132: if (written) change(IMAGE, 0); break;                                /* another number */
+    case 133: if (written) exchange_in_image(); break;                             /* P for I */
+    case 134: if (writes_image(result, -2)) set_size(NUMBER, 0); break;            /* no size told under 2 */
+    case 135: if (written) set_size(NUMBER, size_in(NUMBER) - 1); break;           /* an image one word too short */
+    }
+}
+
+/* Faults in the result of a call with an image. */
+static int32_t break_image(int32_t result)
+{
+    uint64_t number = current == ARRIVE_IMAGE ? arriving_number() : 0;
+    int refused = takes_image(result, -13), repeat = takes_image(result, REPEAT), taken = takes_image(result, TAKEN);
+
+    break_image_areas(result);
+    switch (fault) {
+    case 103: return writes_image(result, -2) && turn.first > MAX_NUMBER ? -9 : result;            /* 9 before 2 */
+    case 104: return writes_image(result, -9) ? 0 : result;                   /* a number above the limit is no refusal */
+    case 105: return writes_image(result, -2) && turn.image_space + 1 == size_in(NUMBER) ? 0 : result; /* a word too few */
+    case 106: return writes_image(result, 0) && turn.image_space == size_in(NUMBER) ? -2 : result; /* just enough refused */
+    case 107: return refused && is_wrong_by(WRONG_KIND) ? TAKEN : result;     /* kinds not looked at */
+    case 108: return refused && is_wrong_by(WRONG_SHORT) ? TAKEN : result;    /* a count that is not met */
+    case 109: return refused && is_wrong_by(WRONG_LENGTH) ? TAKEN : result;   /* any length */
+    case 110: return refused && is_wrong_by(WRONG_UNUSED) ? TAKEN : result;   /* unused bits */
+    case 111: return refused && is_wrong_by(WRONG_OVER) ? TAKEN : result;     /* words left over */
+    case 112: return refused && is_wrong_by(WRONG_PATH) ? TAKEN : result;     /* any path */
+    case 113: return refused && is_wrong_by(WRONG_COUNT) ? TAKEN : result;    /* over 256 entries */
+    case 114: return refused && is_wrong_by(WRONG_SUM) ? TAKEN : result;      /* over 32,768 path bytes */
+    case 115: return refused && is_wrong_by(WRONG_MARKS) ? TAKEN : result;    /* marks not checked */
+    case 116: return takes_image(result, -1) && !is_wrong_by(0) ? -13 : result;                    /* 13 before 1 */
+    case 117: return takes_image(result, -1) && turn.holds && is_wrong_by(0) ? REPEAT : result;    /* n above h */
+    case 118: return repeat && number == 0 ? -13 : result;                    /* number 0 is malformed */
+    case 119: return repeat && (turn.had.last & MAX_NUMBER) < number ? TAKEN : result;             /* n by its low bits */
+    case 120: return taken && number - turn.had.last > 1 ? EARLY : result;    /* Early said to an image */
+    case 121: return taken && number <= turn.had.highest ? REPEAT : result;   /* h in place of n */
+    case 122: return taken && image_count() == 0 ? -13 : result;              /* no image of an empty table */
+    case 123: return take_at_n(result);                                       /* an image at n taken again */
+    case 124: return taken && turn.after.count == MAX_ENTRIES ? -13 : result; /* 256 entries are too many */
+    case 125: return taken && turn.after.sum == MAX_SUM ? -13 : result;       /* so are 32,768 bytes */
+    case 126: return taken && has_longest_path() ? -13 : result;              /* and 1,024 of a path */
+    case 136: return take_at_n(result);                                       /* the same */
+    default: return result;
+    }
+}
+
 /* ---- a permission without a path */
 
 static int is_unit(void)
@@ -201,7 +356,7 @@ static int32_t broken(int32_t result)
         return result;
     break_areas(result);
     break_standby(result);
-    result = break_unit(result);
+    result = break_unit(break_image(result));
     switch (fault) {
     case 14: return current == CHECK_PATH && result > 0 ? 0 : result;     /* a check that fails passes */
     case 15: return result == -8 ? 0 : result;                            /* a full table is no refusal */
@@ -233,5 +388,7 @@ static int32_t broken(int32_t result)
 
 static int is_without_model(void)
 {
-    return fault >= FIRST_WITHOUT_MODEL && fault <= LAST_WITHOUT_MODEL && calls >= FIRST_BROKEN_CALL;
+    int is_one = (fault >= FIRST_WITHOUT_MODEL && fault <= LAST_WITHOUT_MODEL) || fault >= IMAGE_WITHOUT_MODEL;
+
+    return is_one && calls >= FIRST_BROKEN_CALL;
 }

@@ -16,7 +16,7 @@
 #include <string.h>
 #include <unistd.h>
 
-enum { EXTRA_BYTES = 4096, SLOTS = 12, GREATEST_CAUSE = 12, GREATEST_STATE = 5, PATIENCE_SECONDS = 120 };
+enum { EXTRA_BYTES = 4096, SLOTS = 12, GREATEST_CAUSE = 13, GREATEST_STATE = 5, PATIENCE_SECONDS = 120 };
 
 /* ---- the functions, and which results the header names for each */
 
@@ -24,7 +24,7 @@ enum {
     FRESH, INSERT, SET_SWITCHES, QUERY, QUERY_ALL, CHECK_ASKS, CHECK_PATH, CHECK_ALL_ASKS, CHECK_ALL, REQUEST_ASKS,
     REQUEST_PATH, REQUEST_ALL_ASKS, REQUEST_ALL, REVOKE, REVOKE_ALL, MAKE_CHILD, LINKED_INSERT, LINKED_SWITCHES,
     LINKED_CHECK, LINKED_CHECK_ALL, LINKED_REQUEST, LINKED_REQUEST_ALL, LINKED_REVOKE, LINKED_REVOKE_ALL, LINKED_CHILD,
-    ARRIVE, OWED, USED, HEAD, ENTRY, UNIT_CHECKED, UNIT_REQUESTED, UNIT_REVOKED, FUNCTIONS
+    ARRIVE, OWED, LINKED_IMAGE, ARRIVE_IMAGE, USED, HEAD, ENTRY, UNIT_CHECKED, UNIT_REQUESTED, UNIT_REVOKED, FUNCTIONS
 };
 
 #define CAUSE(n) (1u << (n))
@@ -62,6 +62,8 @@ static const struct {
     [LINKED_CHILD] = {"linked_child", CAUSES(1, 10), 0, 0},
     [ARRIVE] = {"arrive", CAUSE(1) | CAUSE(8) | CAUSE(11), APPLIED, EARLY},
     [OWED] = {"owed", CAUSE(1), 0, 0},
+    [LINKED_IMAGE] = {"linked_image", CAUSES(1, 2) | CAUSE(9), 0, 0},
+    [ARRIVE_IMAGE] = {"arrive_image", CAUSE(1) | CAUSE(13), REPEAT, TAKEN},
     [USED] = {"used", CAUSE(1), 4, TABLE_BYTES},
     [HEAD] = {"head", CAUSE(1), 0, 0},
     [ENTRY] = {"entry", CAUSE(1), 0, 1},
@@ -77,6 +79,7 @@ static unsigned long answers_seen[FUNCTIONS][GREATEST_STATE + 2]; /* the last is
 static unsigned long causes_seen[FUNCTIONS][GREATEST_CAUSE + 1];
 static unsigned long tables_seen, none_seen, full_by_entries, full_by_bytes, refused_by_entries, refused_by_bytes;
 static unsigned long records_seen, records_of_refused, arrivals_by_entries, full_elsewhere, mains_followed;
+static unsigned long images_followed, images_wrong[WRONG_ALL + 1]; /* by what is wrong: a sum of WRONG_.. */
 static int current; /* the function that runs */
 
 static int is_child(void)
@@ -142,6 +145,7 @@ static struct turn {
     uint64_t *last, *highest;
     const uint32_t *words;
     size_t words_size;
+    size_t image_space; /* of an image that is written */
     struct {
         uint32_t state, prompt, answer; /* the state before the call */
     } unit;
@@ -173,7 +177,7 @@ static uint64_t long_in(int area)
     return number;
 }
 
-/* The number in the head of the record that is lent, or 0. */
+/* The number in the first word of the record or image that is lent, or 0. */
 static uint32_t arriving_number(void)
 {
     return turn.words_size > 0 ? word_in(WORDS, 0) & 0xFFFFFF : 0;
@@ -263,6 +267,8 @@ static void explain_difference(const struct area *area, long position, int32_t r
         why = "has changed, though the call is refused";
     else if (area == &areas[RECORDS] && (size_t)position >= turn.link.size * sizeof turn.link.words[0])
         why = "has changed, though it lies behind the records";
+    else if (area == &areas[IMAGE] && (size_t)position >= size_in(NUMBER) * sizeof turn.words[0])
+        why = "has changed, though it lies behind the image";
     else if (area == &areas[MEMORY] && (size_t)position >= model_used(&turn.after))
         why = "has changed, though it lies behind the table";
     violation("result %d: byte %ld of the %s %s", (int)result, position, area->name, why);
@@ -280,6 +286,8 @@ static void hold_to_header(int32_t result)
     if ((current == CHECK_PATH || current == CHECK_ALL || current == LINKED_CHECK || current == LINKED_CHECK_ALL)
         && result == GRANTED_PARTIAL)
         violation("fails with state %d", (int)result);
+    if (current == ARRIVE_IMAGE && result == EARLY)
+        violation("says Early to an image");
     if (current == UNIT_REQUESTED && result == PROMPT)
         violation("answers Prompt");
     if (current == UNIT_REVOKED && result == GRANTED)
@@ -333,25 +341,46 @@ static int32_t settle(int32_t result, int32_t expected)
     return result;
 }
 
-/* What an arrival must leave, whatever the model: n and h by its answer and the number in its head, and the memory as it was
- * but for Applied. */
+/* Whether an arrival that is not refused may have this answer, by the number that it has. */
+static int may_say(int32_t answer, uint64_t number, uint64_t last)
+{
+    int is_image = current == ARRIVE_IMAGE;
+
+    switch (answer) {
+    case APPLIED: return !is_image && number > last && number - last == 1;
+    case REPEAT: return number <= last && (is_image || number > 0);
+    case EARLY: return !is_image && number > last && number - last > 1;
+    default: return is_image && number > last;
+    }
+}
+
+/* Whether the memory has the count, switches and marks that an image says. */
+static int has_head_of_image(void)
+{
+    const uint8_t *memory = areas[MEMORY].start;
+
+    return word_in(WORDS, 1) == (UINT32_C(6) << 28 | (memory[0] * 256u + memory[1]) << 8 | (uint32_t)memory[3] << 5 | memory[2]);
+}
+
+/* What an arrival must leave, whatever the model: n and h by its answer and the number in its first word, and the memory as it
+ * was but for Applied and Taken. */
 static void hold_to_answer(int32_t result)
 {
     uint64_t number = arriving_number(), last = turn.had.last, highest = turn.had.highest;
-    int as_said = result < 0 || (result == REPEAT && number > 0 && number <= last)
-                  || (result == APPLIED && number > last && number - last == 1)
-                  || (result == EARLY && number > last && number - last > 1);
+    int is_done = result == APPLIED || result == TAKEN;
 
-    if (result == APPLIED)
+    if (is_done)
         last = number;
-    if ((result == APPLIED || result == EARLY) && highest < number)
+    if ((is_done || result == EARLY) && highest < number)
         highest = number;
-    if (!as_said || long_in(LAST) != last || long_in(HIGHEST) != highest)
+    if ((result >= 0 && !may_say(result, number, turn.had.last)) || long_in(LAST) != last || long_in(HIGHEST) != highest)
         violation("result %d for number %llu, and the standby's numbers go from %llu and %llu to %llu and %llu", (int)result,
                   (unsigned long long)number, (unsigned long long)turn.had.last, (unsigned long long)turn.had.highest,
                   (unsigned long long)long_in(LAST), (unsigned long long)long_in(HIGHEST));
-    if (result != APPLIED && memcmp(areas[MEMORY].start, standby_slot.bytes, turn.memory_size) != 0)
+    if (!is_done && memcmp(areas[MEMORY].start, standby_slot.bytes, turn.memory_size) != 0)
         violation("result %d, and the memory has changed", (int)result);
+    if (result == TAKEN && !has_head_of_image())
+        violation("Taken, and the table has another count, other switches or marks than the image");
 }
 
 /* Counts a call that is about to be made. */
@@ -359,6 +388,12 @@ static void next(int function)
 {
     current = function;
     calls++;
+}
+
+/* Whether so many more may be made. */
+static int is_room(unsigned long more)
+{
+    return call_limit - calls >= more;
 }
 
 /* What stays in the slot is a table: what a call did to memory that holds none is nothing. */
@@ -1063,7 +1098,7 @@ static void run_child(void)
         memcpy(slots[below(SLOTS)].bytes, areas[CHILD].start, child_size);
 }
 
-/* ---- the standby: arrivals and what is owed */
+/* ---- the standby: arrivals */
 
 enum { SENT_RECORDS = 32 };
 
@@ -1143,7 +1178,7 @@ static size_t make_arriving(uint32_t *words)
 
 static void run_arrive(void)
 {
-    static uint32_t words[LONGEST_RECORD];
+    static uint32_t words[MOST_WORDS];
     struct standby standby;
     uint32_t number;
 
@@ -1173,26 +1208,241 @@ static void take_sent(void)
     memcpy(record->words, sent.words + sent.starts[some], record->size * sizeof record->words[0]);
 }
 
-/* A record of those arrives at a standby that has the main's table after as many of them as it has applied. */
-static int32_t arrive_sent(size_t some, struct standby *standby)
+/* Lends the standby's memory, and nothing else yet. */
+static void lend_standby_memory(void)
 {
-    int32_t result;
-
     lend_none();
     turn.slot = &standby_slot;
     turn.memory_size = TABLE_BYTES;
     turn.memory = lend(MEMORY, standby_slot.bytes, turn.memory_size);
     read_memory();
+}
+
+/* What the arrival made of the standby's numbers. */
+static void take_numbers(struct standby *standby)
+{
+    standby->last = long_in(LAST);
+    standby->highest = long_in(HIGHEST);
+}
+
+/* A record of those arrives at a standby that has the main's table after as many of them as it has applied. */
+static int32_t arrive_sent(size_t some, struct standby *standby)
+{
+    int32_t result;
+
+    lend_standby_memory();
     lend_standby(standby);
     lend_words(sent.words + sent.starts[some], sent.starts[some + 1] - sent.starts[some]);
     result = arrive();
-    standby->last = long_in(LAST);
-    standby->highest = long_in(HIGHEST);
+    take_numbers(standby);
     return result;
 }
 
+/* ---- images */
+
+/* The image that a call has written last, and the table that it is of. */
+static struct sent_image {
+    size_t size;
+    uint32_t words[IMAGE_WORDS];
+    uint8_t table[TABLE_BYTES];
+} sent_image;
+
+/* What the writing of an image must leave, whatever the model. */
+static void hold_to_image(int32_t result, uint64_t number)
+{
+    size_t size = size_in(NUMBER);
+    int as_said = size >= 2 && size <= IMAGE_WORDS && (size > turn.image_space) == (result == -2);
+
+    if (result == -1)
+        as_said = size == 0;
+    else if (result != -2)
+        as_said = as_said && (number > MAX_NUMBER) == (result == -9);
+    if (!as_said)
+        violation("result %d with an image of %zu words and number %llu, in a space of %zu", (int)result, size,
+                  (unsigned long long)number, turn.image_space);
+    if (result == 0 && word_in(IMAGE, 0) != (UINT32_C(5) << 28 | (uint32_t)number))
+        violation("an image with another number");
+}
+
+/* Writes the image of the lent memory with this number, into a space of so many words. */
+static int32_t write_image(uint64_t number, size_t space)
+{
+    static uint32_t words[IMAGE_WORDS];
+    size_t size = turn.holds ? model_image(&turn.table, (uint32_t)number, words) : 0;
+    uint32_t *image = lend(IMAGE, NULL, space * sizeof *image);
+    size_t *image_size = lend(NUMBER, NULL, sizeof *image_size);
+    int32_t expected = !turn.holds ? -1 : space < size ? -2 : number > MAX_NUMBER ? -9 : 0, result;
+
+    if (expected == 0)
+        memcpy(wanted(IMAGE), words, size * sizeof words[0]);
+    want_size(NUMBER, size);
+    turn.image_space = space;
+    turn.first = number;
+    next(LINKED_IMAGE);
+    result = settle(permissions_linked_image(turn.memory, turn.memory_size, number, image, space, image_size), expected);
+    hold_to_image(result, number);
+    return result;
+}
+
+/* The words of the lent memory's image, or any number of words if it holds no table. */
+static size_t due_words(void)
+{
+    static uint32_t words[IMAGE_WORDS];
+
+    return turn.holds ? model_image(&turn.table, 0, words) : 1 + below(IMAGE_WORDS);
+}
+
+/* As many words as are due, or some other number. */
+static size_t image_space(size_t due)
+{
+    if (!one_in(3))
+        return due;
+    switch (below(6)) {
+    case 0: return due - 1;
+    case 1: return due + 1;
+    case 2: return 0;
+    case 3: return IMAGE_WORDS;
+    case 4: return below((uint32_t)due);
+    default: return due + below(MORE_WORDS);
+    }
+}
+
+/* The lent words, an image or none, arrive at the lent standby. */
+static int32_t arrive_image(void)
+{
+    int32_t expected = -1, result;
+
+    if (turn.holds && turn.standby.last <= turn.standby.highest)
+        expected = model_arrive_image(&turn.after, &turn.standby, turn.words, turn.words_size);
+    if (expected == TAKEN)
+        want_table(MEMORY, &turn.after);
+    if (expected == -13)
+        images_wrong[model_wrong_image(turn.words, turn.words_size)]++;
+    want_long(LAST, turn.standby.last);
+    want_long(HIGHEST, turn.standby.highest);
+    copy_memory();
+    next(ARRIVE_IMAGE);
+    result = settle(permissions_arrive_image(turn.memory, turn.memory_size, turn.last, turn.highest, turn.words,
+                                             turn.words_size),
+                    expected);
+    hold_to_answer(result);
+    keep_table();
+    return result;
+}
+
+/* The image that was just written arrives at a standby with some table and less than it: then that has the main's table,
+ * whatever the model. */
+static void take_image(struct standby *standby)
+{
+    static struct table table;
+    uint32_t number = word_in(IMAGE, 0) & MAX_NUMBER;
+
+    sent_image.size = size_in(NUMBER);
+    memcpy(sent_image.words, areas[IMAGE].start, sent_image.size * sizeof sent_image.words[0]);
+    memcpy(sent_image.table, areas[MEMORY].start, sizeof sent_image.table);
+    memcpy(standby_slot.bytes, slots[below(SLOTS)].bytes, TABLE_BYTES);
+    lend_standby_memory();
+    lend_words(sent_image.words, sent_image.size);
+    standby->last = below(number);
+    standby->highest = standby->last + (one_in(2) ? 0 : below(MAX_NUMBER));
+    lend_standby(standby);
+    if (arrive_image() != TAKEN)
+        violation("an image as a main wrote it is not taken");
+    take_numbers(standby);
+    if (!model_reads(sent_image.table, sizeof sent_image.table, &table)
+        || memcmp(sent_image.table, standby_slot.bytes, model_used(&table)) != 0)
+        violation("the standby has another table than its main");
+    images_followed++;
+}
+
+/* The main's table from before the last linked call, which is still kept, goes to another standby by an image. */
+static void join(struct standby *standby)
+{
+    uint64_t number = turn.first;
+
+    lend_standby_memory();
+    if (write_image(number, due_words()) != 0)
+        violation("a main's table has no image");
+    take_image(standby);
+}
+
+/* A standby that has taken an image takes it no second time, and has the same one. */
+static void take_again(const struct standby *standby)
+{
+    lend_standby_memory();
+    lend_words(sent_image.words, sent_image.size);
+    lend_standby(standby);
+    if (arrive_image() != REPEAT)
+        violation("an image is taken twice");
+    lend_standby_memory();
+    if (write_image(standby->last, due_words()) != 0 || size_in(NUMBER) != sent_image.size
+        || memcmp(areas[IMAGE].start, sent_image.words, sent_image.size * sizeof sent_image.words[0]) != 0)
+        violation("the standby has another image than its main");
+}
+
+/* Writes an image, at times after a look at its size; what is written is taken. */
+static void run_image(void)
+{
+    uint64_t number = one_in(8) ? below(3) : make_main_number();
+    size_t due, said = 0;
+    struct standby standby;
+
+    lend_memory();
+    due = due_words();
+    if (one_in(3)) {
+        (void)write_image(number, 0);
+        said = size_in(NUMBER);
+    }
+    if (write_image(number, image_space(due)) != 0 || number == 0) {
+        keep_table();
+        return;
+    }
+    if (said > 0 && size_in(NUMBER) != said)
+        violation("an image of %zu words, said to be of %zu", size_in(NUMBER), said);
+    keep_table();
+    take_image(&standby);
+    if (one_in(3))
+        take_again(&standby);
+}
+
+/* The image of a table, as it is or damaged, or words that are mostly none. */
+static size_t make_arriving_image(uint32_t *words)
+{
+    static struct table table;
+    size_t size = sent_image.size;
+
+    if (one_in(16))
+        return make_image_words(words);
+    if (size > 0 && one_in(3)) {
+        memcpy(words, sent_image.words, size * sizeof words[0]);
+    } else if (one_in(2)) {
+        (void)model_reads(slots[below(SLOTS)].bytes, TABLE_BYTES, &table);
+        size = model_image(&table, make_image_number(), words);
+    } else {
+        size = make_image(words, make_image_number(), turn.slot->style);
+    }
+    return one_in(2) ? make_image_damage(words, size) : size;
+}
+
+static void run_arrive_image(void)
+{
+    static uint32_t words[MOST_WORDS];
+    struct standby standby = {0, below(3)};
+    uint32_t number;
+
+    lend_memory();
+    lend_words(words, make_arriving_image(words));
+    number = arriving_number();
+    if (number > 0 || one_in(2))
+        make_standby(&standby, number > 0 ? number : make_record_number());
+    lend_standby(&standby);
+    (void)arrive_image();
+}
+
+/* ---- a main followed, and what is owed */
+
 /* All that the last linked call sent arrives, some of it early or again, at a standby with the main's table from before the
- * call: then it has the main's table, whatever the model. */
+ * call, at times by an image: then it has the main's table, whatever the model. */
 static void follow_main(void)
 {
     static struct table table;
@@ -1201,6 +1451,8 @@ static void follow_main(void)
 
     take_sent();
     turn.linked = NULL;
+    if (turn.first > 0 && one_in(4) && is_room(2))
+        join(&standby);
     while (applied < sent.count && calls < call_limit) {
         size_t some = one_in(4) ? below((uint32_t)sent.count) : applied;
         int32_t due = some < applied ? REPEAT : some == applied ? APPLIED : EARLY;
@@ -1285,6 +1537,8 @@ static void run_unit(void)
         unit->state = one_in(2) ? PROMPT : make_number(STATES);
         unit->has_passed = 0;
     }
+    if (unit->state >= STATES && one_in(3))
+        answer = ANSWERS + below(3); /* two things wrong */
     turn.unit.state = state = unit->state;
     turn.unit.prompt = prompt;
     turn.unit.answer = answer;
@@ -1304,16 +1558,16 @@ static void run_unit(void)
 
 static void run_turn(void)
 {
-    static void (*const turns[])(void) = {run_insert, run_insert, run_insert, run_ask,      run_ask,  run_ask,
-                                          run_query,  run_revoke, run_child,  run_child,    run_used, run_head,
-                                          run_arrive, run_arrive, run_arrive, run_switches, run_owed, run_entry,
-                                          run_unit};
+    static void (*const turns[])(void) = {run_insert, run_insert,       run_insert,       run_ask,      run_ask,  run_ask,
+                                          run_query,  run_revoke,       run_child,        run_child,    run_used, run_head,
+                                          run_arrive, run_arrive,       run_arrive,       run_switches, run_owed, run_entry,
+                                          run_image,  run_arrive_image, run_arrive_image, run_unit};
     void (*run)(void) = one_in(80) ? run_fresh : turns[below(sizeof turns / sizeof turns[0])];
 
     lend_none();
     turn.linked = NULL;
-    if (run == run_ask && call_limit - calls < 3)
-        run = run_used; /* the other makes three calls */
+    if (!is_room(5) && (run == run_ask || run == run_image))
+        run = run_used; /* the others make three calls, and up to five */
     run();
     if (turn.linked != NULL && size_in(NUMBER_3) > 0)
         follow_main();
@@ -1345,6 +1599,22 @@ static void print_row(int function)
     printf("\n");
 }
 
+/* How many images had this one thing wrong, and nothing else. */
+static void print_wrong_images(void)
+{
+    static const struct {
+        const char *name;
+        uint32_t wrong;
+    } wrongs[] = {{"a kind", WRONG_KIND}, {"words missing", WRONG_SHORT}, {"a length", WRONG_LENGTH},
+                  {"what is not used", WRONG_UNUSED}, {"words left over", WRONG_OVER}, {"a path", WRONG_PATH},
+                  {"over 256 entries", WRONG_COUNT}, {"over 32,768 bytes", WRONG_SUM}, {"the marks", WRONG_MARKS}};
+
+    printf("images with one thing wrong:");
+    for (size_t i = 0; i < sizeof wrongs / sizeof wrongs[0]; i++)
+        printf("%s %s %lu", i > 0 ? "," : "", wrongs[i].name, images_wrong[wrongs[i].wrong]);
+    printf("\n");
+}
+
 static void print_report(void)
 {
     printf("%-18s   calls", "function");
@@ -1366,6 +1636,10 @@ static void print_report(void)
     printf("arrivals at a full table: %lu next ones refused by 8, %lu of them with 256 entries; %lu Repeat or Early\n",
            causes_seen[ARRIVE][8], arrivals_by_entries, full_elsewhere);
     printf("%lu times the records of a linked call brought a standby to the main's table\n", mains_followed);
+    printf("%lu images written, %lu Taken, %lu Repeat, %lu refused by 13; %lu times one brought a standby to the main's table\n",
+           answers_seen[LINKED_IMAGE][0], answers_seen[ARRIVE_IMAGE][TAKEN], answers_seen[ARRIVE_IMAGE][REPEAT],
+           causes_seen[ARRIVE_IMAGE][13], images_followed);
+    print_wrong_images();
     printf("hostile: %lu calls, seed %lu, 0 violations\n", calls, seed);
 }
 

@@ -208,11 +208,11 @@ static uint32_t kind_of(uint32_t set)
     return (set >> kind & 1) != 0 ? kind : KIND_G;
 }
 
+static const uint32_t marks[KINDS] = {0, 1, 2, 4};
+
 /* An entry by the search, or wherever it falls: a table's order is no part of its form. */
 static void add_entry(struct table *table, uint32_t kind, struct bytes path, int placed)
 {
-    static const uint32_t marks[KINDS] = {0, 1, 2, 4};
-
     if (placed) {
         (void)model_insert(table, kind, path, NULL);
     } else if (table->count < MAX_ENTRIES && table->sum + path.size <= MAX_SUM) {
@@ -329,7 +329,7 @@ void make_damage(uint8_t *memory, size_t size)
 
 /* ---- records */
 
-enum { HEAD_WORD = 1, LENGTH_WORD, PATH_WORD, SWITCHES_WORD };
+enum { HEAD_WORD = 1, LENGTH_WORD, PATH_WORD, SWITCHES_WORD, NUMBER_WORD, TABLE_WORD, ENTRY_WORD };
 
 static uint32_t word_of(uint32_t kind, uint32_t bits)
 {
@@ -400,13 +400,9 @@ static size_t main_record(uint32_t *words, uint32_t number, struct bytes path)
     return link.size;
 }
 
-/* A record with any path, of any size below 2^16. */
-static size_t path_record(uint32_t *words, uint32_t number, struct bytes path)
+/* Adds the path words; the new count. */
+static size_t add_path_words(uint32_t *words, size_t count, struct bytes path)
 {
-    size_t count = 0;
-
-    words[count++] = word_of(HEAD_WORD, (one_in(6) ? 6 : 1 + below(4)) << 24 | number);
-    words[count++] = word_of(LENGTH_WORD, (uint32_t)path.size);
     for (size_t at = 0; at < path.size; at += 3) {
         uint32_t three = 0;
         for (size_t i = at; i < at + 3; i++)
@@ -414,6 +410,14 @@ static size_t path_record(uint32_t *words, uint32_t number, struct bytes path)
         words[count++] = word_of(PATH_WORD, three);
     }
     return count;
+}
+
+/* A record with any path, of any size below 2^16. */
+static size_t path_record(uint32_t *words, uint32_t number, struct bytes path)
+{
+    words[0] = word_of(HEAD_WORD, (one_in(6) ? 6 : 1 + below(4)) << 24 | number);
+    words[1] = word_of(LENGTH_WORD, (uint32_t)path.size);
+    return add_path_words(words, 2, path);
 }
 
 /* A resolved path of a size next to the limit, or far above it; at times what is above the limit is zero bytes. */
@@ -461,7 +465,10 @@ static uint32_t other_length(uint32_t length)
 /* A bit that must be zero in a word of this kind. */
 static uint32_t unused_bit(uint32_t kind)
 {
-    uint32_t lowest = kind == LENGTH_WORD ? 16 : kind == PATH_WORD ? 24 : 5;
+    static const uint32_t used[16] = {
+        [LENGTH_WORD] = 16, [PATH_WORD] = 24, [NUMBER_WORD] = 24, [TABLE_WORD] = 17, [ENTRY_WORD] = 18};
+    uint32_t lowest = used[kind] > 0 ? used[kind] : 5;
+
     return UINT32_C(1) << (lowest + below(28 - lowest));
 }
 
@@ -470,7 +477,7 @@ static size_t lengthen(uint32_t *words, size_t size)
 {
     const uint32_t fill[] = {0, word_of(PATH_WORD, 0), words[0], words[0] + 1, words[size - 1], (uint32_t)any()};
     uint32_t word = fill[below(sizeof fill / sizeof fill[0])];
-    size_t longer = size + 1 + below(one_in(16) ? (uint32_t)(LONGEST_RECORD - size) : 3);
+    size_t longer = size + 1 + below(one_in(16) ? (uint32_t)(MOST_WORDS - size) : 3);
 
     while (size < longer)
         words[size++] = word;
@@ -499,11 +506,18 @@ size_t make_record_damage(uint32_t *words, size_t size)
     return size;
 }
 
+/* Three bytes of a path, or of what is none. */
+static uint32_t any_three(void)
+{
+    static const char *const threes[] = {"/aa", "/a/", "a/b", "/..", "bcc", "/a\0", "/\0\0", "b\0\0", "/./", "//a", "../"};
+    const char *three = threes[below(sizeof threes / sizeof threes[0])];
+
+    return (uint32_t)three[0] << 16 | (uint32_t)three[1] << 8 | (uint32_t)three[2];
+}
+
 /* A word that might stand at this place of a record with so many words. */
 static uint32_t likely_word(size_t place, size_t size)
 {
-    static const char *const threes[] = {"/aa", "/a/", "a/b", "/..", "bcc", "/a\0", "/\0\0", "b\0\0"};
-    const char *three = threes[below(sizeof threes / sizeof threes[0])];
     uint32_t number = make_record_number();
 
     if (one_in(16))
@@ -512,17 +526,201 @@ static uint32_t likely_word(size_t place, size_t size)
         return word_of(HEAD_WORD, below(9) << 24 | number);
     if (place == 1)
         return one_in(5) ? word_of(SWITCHES_WORD, below(40)) : word_of(LENGTH_WORD, (uint32_t)(3 * size) - 6 - below(3));
-    return word_of(PATH_WORD, (uint32_t)three[0] << 16 | (uint32_t)three[1] << 8 | (uint32_t)three[2]);
+    return word_of(PATH_WORD, any_three());
 }
 
 size_t make_words(uint32_t *words)
 {
-    size_t size = one_in(32) ? below(LONGEST_RECORD + 1) : below(one_in(8) ? 400 : 6);
+    size_t size = one_in(32) ? below(MOST_WORDS + 1) : below(one_in(8) ? 400 : 6);
 
     make_noise((uint8_t *)words, size * sizeof words[0]);
     if (one_in(4))
         return size;
     for (size_t i = 0; i < size; i++)
         words[i] = likely_word(i, size);
+    return size;
+}
+
+/* ---- images */
+
+uint32_t make_image_number(void)
+{
+    return one_in(16) ? 0 : make_record_number();
+}
+
+/* An image in the making, of whatever entries. */
+struct image {
+    uint32_t *words;
+    size_t size;
+    uint32_t count, marks;
+};
+
+/* Any path of a size below 2^16. */
+static void add_image_entry(struct image *image, struct bytes path)
+{
+    uint32_t kind = below(KINDS);
+
+    image->words[image->size++] = word_of(ENTRY_WORD, kind << 16 | (uint32_t)path.size);
+    image->size = add_path_words(image->words, image->size, path);
+    image->count++;
+    image->marks |= marks[kind];
+}
+
+static void add_short_entries(struct image *image, uint32_t count)
+{
+    for (pooled = 0; count > 0; count--)
+        add_image_entry(image, exact_path(1 + below(6)));
+}
+
+/* Entries within every limit but that of the sum, at times by one byte. */
+static void add_long_entries(struct image *image)
+{
+    uint32_t left = one_in(2) ? 33 + below(8) : MAX_ENTRIES - below(2);
+    size_t sum = MAX_SUM + 1 + below(one_in(2) ? 3 : 1000);
+
+    for (pooled = 0; left > 0; left--) {
+        size_t size = sum / left;
+        add_image_entry(image, exact_path(size));
+        sum -= size;
+    }
+}
+
+/* An entry whose path is mostly too long or not resolved, among others. */
+static void add_odd_entry(struct image *image, int style)
+{
+    static uint8_t given[LONGEST_PATH];
+    struct bytes path = {given, 0};
+
+    add_short_entries(image, below(4));
+    if (one_in(3))
+        path = long_path();
+    else
+        path.size = make_path(given, style);
+    add_image_entry(image, path);
+    add_short_entries(image, below(4));
+}
+
+/* An image that no table has, but at times for its path. */
+static size_t odd_image(uint32_t *words, uint32_t number, int style)
+{
+    struct image image = {words, 2, 0, 0};
+
+    switch (below(4)) {
+    case 0: add_short_entries(&image, MAX_ENTRIES + 1 + below(one_in(3) ? 600 : MAX_ENTRIES - 1)); break;
+    case 1: add_long_entries(&image); break;
+    default: add_odd_entry(&image, style); break;
+    }
+    words[0] = word_of(NUMBER_WORD, number);
+    words[1] = word_of(TABLE_WORD, image.count << 8 | image.marks << 5 | below(SWITCHES));
+    return image.size;
+}
+
+size_t make_image(uint32_t *words, uint32_t number, int style)
+{
+    static uint8_t memory[TABLE_BYTES];
+    static struct table table;
+
+    if (one_in(3))
+        return odd_image(words, number, style);
+    make_table(memory, style);
+    (void)model_reads(memory, sizeof memory, &table);
+    return model_image(&table, number, words);
+}
+
+/* The place of some entry's word, by what the image says, and the last word's where that is none. */
+static size_t some_image_entry(const uint32_t *words, size_t size)
+{
+    uint32_t count = words[1] >> 8 & 511;
+    size_t at = 2;
+
+    for (uint32_t i = count == 0 ? 0 : below(count); i > 0 && at < size; i--)
+        at += 1 + ((words[at] & 0xFFFF) + 2) / 3;
+    return at < size ? at : size - 1;
+}
+
+static uint32_t other_count(uint32_t count)
+{
+    switch (below(5)) {
+    case 0: return count + 1;
+    case 1: return count - 1;
+    case 2: return count + 256; /* the same in its low eight bits */
+    case 3: return 255 + below(3);
+    default: return below(512);
+    }
+}
+
+static void set_count(uint32_t *words, uint32_t count)
+{
+    words[1] = (words[1] & ~(UINT32_C(511) << 8)) | (count & 511) << 8;
+}
+
+/* An entry more, the root, with the count or without it. */
+static size_t add_root(uint32_t *words, size_t size)
+{
+    if (!one_in(4))
+        set_count(words, (words[1] >> 8 & 511) + 1);
+    words[size] = word_of(ENTRY_WORD, KIND_G << 16 | 1);
+    words[size + 1] = word_of(PATH_WORD, (uint32_t)'/' << 16);
+    return size + 2;
+}
+
+static size_t damage_image(uint32_t *words, size_t size)
+{
+    size_t some = below((uint32_t)size), last = size - 1, entry = some_image_entry(words, size);
+    size_t ends = entry + ((words[entry] & 0xFFFF) + 2) / 3; /* the entry's last word */
+    uint32_t *word = one_in(2) ? &words[some] : &words[one_in(2) ? entry : below(2)];
+
+    switch (below(17)) {
+    case 0: *word ^= UINT32_C(1) << below(32); break;
+    case 1: flip_bits((uint8_t *)words, (uint32_t)(size * sizeof *words), 1 + below(8)); break;
+    case 2: return one_in(2) ? last : some; /* words missing */
+    case 3: return lengthen(words, size);
+    case 4: *word = word_of(below(16), *word); break;
+    case 5: set_count(words, other_count(words[1] >> 8 & 511)); break;
+    case 6: words[1] ^= (1 + below(7)) << 5; break; /* other marks */
+    case 7: words[1] ^= UINT32_C(1) << below(5); break; /* another switch: an image */
+    case 8: words[entry] = word_of(ENTRY_WORD, (words[entry] & 0x30000) + other_length(words[entry] & 0xFFFF)); break;
+    case 9: *word |= unused_bit(*word >> 28); break;
+    case 10: words[ends < size ? ends : last] |= (1 + below(255)) << (8 * below(2)); break; /* bytes that are perhaps not used */
+    case 11: memmove(word, word + 1, (size_t)(words + last - word) * sizeof *word); return last;
+    case 12: memmove(word + 1, word, (size_t)(words + size - word) * sizeof *word); return size + 1;
+    case 13: words[0] = word_of(NUMBER_WORD, make_image_number()); break;
+    case 14: words[entry] ^= (1 + below(3)) << 16; break; /* another kind of entry */
+    case 15: words[entry < last ? entry + 1 : last] = word_of(PATH_WORD, any_three()); break;
+    default: return add_root(words, size);
+    }
+    return size;
+}
+
+size_t make_image_damage(uint32_t *words, size_t size)
+{
+    for (uint32_t hits = one_in(4) ? 1 + below(4) : 1; hits > 0 && size >= 2 && size + 4 < MOST_WORDS; hits--)
+        size = damage_image(words, size);
+    return size;
+}
+
+/* A word that might stand at this place of an image. */
+static uint32_t likely_image_word(size_t place)
+{
+    if (one_in(16))
+        return word_of(below(9), make_record_number());
+    if (place == 0)
+        return word_of(NUMBER_WORD, make_image_number());
+    if (place == 1)
+        return word_of(TABLE_WORD, below(4) << 8 | marks[below(KINDS)] << 5 | below(SWITCHES));
+    if (place % 2 == 0)
+        return word_of(ENTRY_WORD, below(KINDS) << 16 | (1 + below(3)));
+    return word_of(PATH_WORD, any_three());
+}
+
+size_t make_image_words(uint32_t *words)
+{
+    size_t size = one_in(32) ? below(MOST_WORDS + 1) : below(one_in(8) ? 400 : 8);
+
+    make_noise((uint8_t *)words, size * sizeof words[0]);
+    if (one_in(4))
+        return size;
+    for (size_t i = 0; i < size; i++)
+        words[i] = likely_image_word(i);
     return size;
 }

@@ -1,4 +1,4 @@
-/* Hostile input from a seed: numbers, paths, directories, tables of every size, records, and damage to these two. */
+/* Hostile input from a seed: numbers, paths, directories, tables of every size, records, images, and damage to these three. */
 #ifndef MAKE_H
 #define MAKE_H
 
@@ -7,7 +7,11 @@
 
 struct standby;
 
-enum { LONGEST_PATH = 2000, LONGEST_RECORD = 22000 /* words */ };
+enum {
+    LONGEST_PATH = 2000,
+    MOST_WORDS = 22000, /* that arrive */
+    MORE_WORDS = 1000   /* of an image's space, behind the largest image */
+};
 
 /* What the paths are like: few names, so that they meet; many, so that tables fill by entries; long, so that they fill by
  * bytes. */
@@ -45,7 +49,7 @@ uint32_t make_record_number(void);
 void make_standby(struct standby *standby, uint32_t number);
 
 /* A record as a main writes it, or the same with a path that is not resolved or too long; the count of its words, at most
- * LONGEST_RECORD as in all of these. */
+ * MOST_WORDS as in all of these. */
 size_t make_record(uint32_t *words, uint32_t number, const uint8_t *path, size_t path_size);
 
 /* Damages a record; at times another one comes out. The new count of words. */
@@ -53,5 +57,18 @@ size_t make_record_damage(uint32_t *words, size_t size);
 
 /* Words of any bits, or with the kinds of a record; seldom they are one. */
 size_t make_words(uint32_t *words);
+
+/* 0 to MAX_NUMBER, at times next to one of them. */
+uint32_t make_image_number(void);
+
+/* An image of a table of any size, or one that no table has: of too many entries or bytes, or with a path that is not resolved
+ * or too long. */
+size_t make_image(uint32_t *words, uint32_t number, int style);
+
+/* Damages an image of two words or more, at one place or a few; at times another one comes out. The new count of words. */
+size_t make_image_damage(uint32_t *words, size_t size);
+
+/* Words of any bits, or with the kinds of an image; seldom they are one. */
+size_t make_image_words(uint32_t *words);
 
 #endif

@@ -1,5 +1,5 @@
 /* The scope in plain C, from the bottom up: paths, a table in memory, records, acts, the walk, the calls, the child, the
- * standby. */
+ * standby, images. */
 #include "model.h"
 
 #include <string.h>
@@ -207,6 +207,16 @@ static int add_head(struct link *link, uint32_t act)
     return 0;
 }
 
+/* Three bytes of a path, from `at` on; those behind it are 0. */
+static uint32_t three_bytes(struct bytes path, size_t at)
+{
+    uint32_t three = 0;
+
+    for (size_t i = at; i < at + 3; i++)
+        three = three << 8 | (i < path.size ? path.start[i] : 0u);
+    return three;
+}
+
 static int record_path(struct link *link, uint32_t act, struct bytes path)
 {
     int refused = add_head(link, act);
@@ -214,12 +224,8 @@ static int record_path(struct link *link, uint32_t act, struct bytes path)
     if (link == NULL || refused != 0)
         return refused;
     add_word(link, LENGTH, (uint32_t)path.size);
-    for (size_t at = 0; at < path.size; at += 3) {
-        uint32_t three = 0;
-        for (size_t i = at; i < at + 3; i++)
-            three = three << 8 | (i < path.size ? path.start[i] : 0u);
-        add_word(link, PATH_BYTES, three);
-    }
+    for (size_t at = 0; at < path.size; at += 3)
+        add_word(link, PATH_BYTES, three_bytes(path, at));
     return 0;
 }
 
@@ -547,17 +553,28 @@ struct record {
 struct reader {
     const uint32_t *words;
     size_t size, at;
-    int malformed;
+    uint32_t wrong;
 };
 
-/* The 28 bits below the next word's kind. A word that is missing counts as 0, which is of no kind. */
+/* The 28 bits below the next word's kind, or 0 where there is none. */
 static uint32_t next_word(struct reader *reader, uint32_t kind)
 {
-    uint32_t word = reader->at < reader->size ? reader->words[reader->at++] : 0;
+    uint32_t word;
 
+    if (reader->at == reader->size) {
+        reader->wrong |= WRONG_SHORT;
+        return 0;
+    }
+    word = reader->words[reader->at++];
     if (word >> 28 != kind)
-        reader->malformed = 1;
+        reader->wrong |= WRONG_KIND;
     return word & 0xFFFFFFF;
+}
+
+/* Whether what comes next can still be read. */
+static int has_form(const struct reader *reader)
+{
+    return (reader->wrong & WRONG_FORM) == 0;
 }
 
 /* Up to three bytes of the path, from `at` on; bytes behind the path and the bits above are not used, and zero. */
@@ -567,30 +584,31 @@ static void read_path_word(struct reader *reader, struct path *path, size_t at)
     const uint8_t three[3] = {(uint8_t)(word >> 16), (uint8_t)(word >> 8), (uint8_t)word};
 
     if (word >> 24 != 0)
-        reader->malformed = 1;
+        reader->wrong |= WRONG_UNUSED;
     for (size_t i = 0; i < 3; i++) {
         if (at + i < path->size)
             path->bytes[at + i] = three[i];
         else if (three[i] != 0)
-            reader->malformed = 1;
+            reader->wrong |= WRONG_UNUSED;
     }
 }
 
-/* A length with any of the unused bits is far over the limit. */
-static void read_path(struct reader *reader, struct path *path)
+/* A path of this size. */
+static void read_path(struct reader *reader, struct path *path, size_t size)
 {
-    struct bytes whole = {path->bytes, 0};
+    struct bytes whole = {path->bytes, size};
 
-    path->size = whole.size = next_word(reader, LENGTH);
-    if (path->size == 0 || path->size > MAX_PATH)
-        reader->malformed = 1;
-    for (size_t at = 0; at < path->size && !reader->malformed; at += 3)
+    path->size = size;
+    if (size == 0 || size > MAX_PATH)
+        reader->wrong |= WRONG_LENGTH;
+    for (size_t at = 0; at < size && has_form(reader); at += 3)
         read_path_word(reader, path, at);
-    if (!reader->malformed && !is_resolved(whole))
-        reader->malformed = 1;
+    if (has_form(reader) && !is_resolved(whole))
+        reader->wrong |= WRONG_PATH;
 }
 
-/* Reads a record that ends where the words end; 0 where it is malformed. */
+/* Reads a record that ends where the words end; 0 where it is malformed. A length with any of its unused bits is far over the
+ * limit. */
 static int read_record(const uint32_t *words, size_t size, struct record *record)
 {
     struct reader reader = {words, size, 0, 0};
@@ -600,13 +618,14 @@ static int read_record(const uint32_t *words, size_t size, struct record *record
     record->number = head & 0xFFFFFF;
     if (record->act == ACT_SWITCHES) {
         record->switches = next_word(&reader, SWITCHES_WORD);
-        reader.malformed |= record->switches >= SWITCHES;
+        if (record->switches >= SWITCHES)
+            reader.wrong |= WRONG_UNUSED;
     } else if (record->act >= 1 && record->act <= ACT_REVOKE) {
-        read_path(&reader, &record->path);
+        read_path(&reader, &record->path, next_word(&reader, LENGTH));
     } else if (record->act != ACT_REVOKE_ALL) {
-        reader.malformed = 1;
+        reader.wrong |= WRONG_KIND;
     }
-    return !reader.malformed && record->number != 0 && reader.at == size;
+    return reader.wrong == 0 && record->number != 0 && reader.at == size;
 }
 
 /* 0, or -8. */
@@ -641,6 +660,101 @@ int model_arrive(struct table *table, struct standby *standby, const uint32_t *w
     if (standby->highest < record.number)
         standby->highest = record.number;
     return is_next ? APPLIED : EARLY;
+}
+
+/* ---- images */
+
+enum { NUMBER_WORD = 5, TABLE_WORD, ENTRY_WORD };
+enum { MOST_COUNT = 511 /* nine bits */ };
+
+size_t model_image(const struct table *table, uint32_t number, uint32_t *words)
+{
+    size_t size = 0;
+
+    words[size++] = (uint32_t)NUMBER_WORD << 28 | number;
+    words[size++] = (uint32_t)TABLE_WORD << 28 | (uint32_t)table->count << 8 | table->marks << 5 | table->switches;
+    for (size_t i = 0; i < table->count; i++) {
+        const struct entry *entry = &table->entries[i];
+        words[size++] = (uint32_t)ENTRY_WORD << 28 | entry->kind << 16 | (uint32_t)entry->path.size;
+        for (size_t at = 0; at < entry->path.size; at += 3)
+            words[size++] = (uint32_t)PATH_BYTES << 28 | three_bytes(entry->path, at);
+    }
+    return size;
+}
+
+/* An image as it was read. */
+struct image {
+    uint32_t number;
+    struct table table;
+};
+
+/* Reads an entry, with its path; its mark is added to those found. */
+static void read_image_entry(struct reader *reader, struct path *path, struct table *table, uint32_t *marks)
+{
+    uint32_t word = next_word(reader, ENTRY_WORD);
+    struct entry entry = {word >> 16 & 3, {path->bytes, word & 0xFFFF}};
+
+    if (word >> 18 != 0)
+        reader->wrong |= WRONG_UNUSED;
+    if (has_form(reader))
+        read_path(reader, path, entry.path.size);
+    if (table->count < MAX_ENTRIES)
+        table->entries[table->count++] = entry;
+    table->sum += entry.path.size;
+    *marks |= mark_of(entry.kind);
+}
+
+/* Reads an image that ends where the words end; what is wrong with it. The image points into memory that lives until the next
+ * one is read. */
+static uint32_t read_image(const uint32_t *words, size_t size, struct image *image)
+{
+    static struct path paths[MOST_COUNT];
+    struct reader reader = {words, size, 0, 0};
+    struct table *table = &image->table;
+    uint32_t number = next_word(&reader, NUMBER_WORD), head = next_word(&reader, TABLE_WORD), marks = 0;
+    uint32_t count = head >> 8 & MOST_COUNT;
+
+    image->number = number & MAX_NUMBER;
+    table->count = table->sum = 0;
+    table->switches = head & 31;
+    table->marks = head >> 5 & 7;
+    if (number > MAX_NUMBER || head >> 17 != 0)
+        reader.wrong |= WRONG_UNUSED;
+    for (uint32_t i = 0; i < count && has_form(&reader); i++)
+        read_image_entry(&reader, &paths[i], table, &marks);
+    if (!has_form(&reader))
+        return reader.wrong & WRONG_FORM;
+    if (count > MAX_ENTRIES)
+        reader.wrong |= WRONG_COUNT;
+    if (table->sum > MAX_SUM)
+        reader.wrong |= WRONG_SUM;
+    if (table->marks != marks)
+        reader.wrong |= WRONG_MARKS;
+    if (reader.at < size)
+        reader.wrong |= WRONG_OVER;
+    return reader.wrong;
+}
+
+uint32_t model_wrong_image(const uint32_t *words, size_t size)
+{
+    static struct image image;
+
+    return read_image(words, size, &image);
+}
+
+int model_arrive_image(struct table *table, struct standby *standby, const uint32_t *words, size_t size)
+{
+    static struct image image;
+
+    if (read_image(words, size, &image) != 0)
+        return -13;
+    if (image.number <= standby->last)
+        return REPEAT;
+    *table = image.table;
+    standby->last = image.number;
+    if (standby->highest < image.number)
+        standby->highest = image.number;
+    return TAKEN;
 }
 
 /* ---- a permission without a path */

@@ -13,7 +13,8 @@ enum {
     MAX_PATH = 1024,
     MAX_SUM = 32768,
     MAX_ITEMS = 64,
-    RECORD_WORDS = 344, /* of the record space, for each child item */
+    RECORD_WORDS = 344,  /* of the record space, for each child item */
+    IMAGE_WORDS = 11351, /* of the largest image */
     MAX_NUMBER = 16777215
 };
 
@@ -24,7 +25,22 @@ enum { DENY, ALLOW, ALLOW_ALL, ANSWERS };
 enum { INHERIT, CHILD_GRANTED, NOT_GRANTED, LIST, CODES };
 enum { SWITCH_GRANTED = 1, SWITCH_DENIED = 2, SWITCH_IGNORED = 4, SWITCH_PROMPT_DENIED = 8, SWITCH_PROMPT = 16, SWITCHES = 32 };
 enum { CHECK, REQUEST, UNIT_REVOKE /* of a permission without a path */ };
-enum { APPLIED, REPEAT, EARLY };
+enum { APPLIED, REPEAT, EARLY, TAKEN };
+
+/* What can be wrong with the words of a record or an image; they add up. Behind one of the first three nothing is read. */
+enum {
+    WRONG_KIND = 1,
+    WRONG_SHORT = 2,   /* a word is missing */
+    WRONG_LENGTH = 4,  /* of a path: 0, or above 1,024 */
+    WRONG_FORM = 7,    /* these three */
+    WRONG_UNUSED = 8,  /* a bit or byte that carries nothing is set */
+    WRONG_OVER = 16,   /* words are left over */
+    WRONG_PATH = 32,   /* one is not in resolved form */
+    WRONG_COUNT = 64,  /* above 256 entries */
+    WRONG_SUM = 128,   /* above 32,768 path bytes */
+    WRONG_MARKS = 256, /* not those of the kinds that are there */
+    WRONG_ALL = 511
+};
 
 struct bytes {
     const uint8_t *start;
@@ -99,6 +115,15 @@ int model_child(struct table *parent, struct table *child, const struct child_ca
 /* Takes the words of one record at a standby whose n is not above its h. Result: the answer, -11 or -8. The table may point
  * into memory that lives until the next call. */
 int model_arrive(struct table *table, struct standby *standby, const uint32_t *words, size_t size);
+
+/* Writes the image of a table with a number; the count of its words, at most IMAGE_WORDS. */
+size_t model_image(const struct table *table, uint32_t number, uint32_t *words);
+
+/* What is wrong with the words of an image: a sum of WRONG_.., 0 if nothing is. */
+uint32_t model_wrong_image(const uint32_t *words, size_t size);
+
+/* Takes the words of one image, as model_arrive those of a record. Result: TAKEN, REPEAT or -13. */
+int model_arrive_image(struct table *table, struct standby *standby, const uint32_t *words, size_t size);
 
 /* A call on a permission without a path; the answer counts for a check or request. Result: the state afterwards, -12 or -3. */
 int model_unit(int call, uint32_t *state, uint32_t prompt, uint32_t answer, uint32_t *asked);

@@ -1,15 +1,17 @@
-/* The main: random linked calls, and what stands after each of its changes. */
+/* The main: random linked calls, what stands after each of its changes, and images. */
 #include "mainside.h"
 #include "areas.h"
 #include "chance.h"
 #include "link.h"
 #include "permissions.h"
+#include "words.h"
 
 #include <stdlib.h>
 #include <string.h>
 
 enum { TABLE = PERMISSIONS_TABLE_BYTES, TEXT = PERMISSIONS_TEXT_BYTES, RECORD = PERMISSIONS_RECORD_WORDS };
 enum { MOST_ITEMS = PERMISSIONS_MAX_ITEMS, MOST_WORDS = MOST_ITEMS * RECORD };
+enum { IMAGE = PERMISSIONS_IMAGE_WORDS, IMAGE_EXTRA = 40 };
 enum { PATTERN = 0xA5 };
 
 struct history history;
@@ -70,6 +72,7 @@ static struct call {
 
 /* The ends of the lent areas, and what the memory held before the call. */
 static unsigned char *path_end, *directory_end, *text_end, *records_end, *child_end, *items_end, *ends_end, *answers_end;
+static unsigned char *image_end;
 static unsigned char before[TABLE];
 
 static void make_areas(void)
@@ -85,6 +88,7 @@ static void make_areas(void)
     items_end = make_area(sizeof call.items);
     ends_end = make_area(sizeof call.ends);
     answers_end = make_area(sizeof call.answers);
+    image_end = make_area((IMAGE + IMAGE_EXTRA) * sizeof(uint32_t));
 }
 
 /* Contents as an area that ends where it must. */
@@ -349,6 +353,7 @@ void begin_main(uint64_t number)
     for (size_t k = 0; k <= history.count; k++) {
         free(history.changes[k].words);
         free(history.changes[k].table);
+        free(history.changes[k].image);
     }
     memset(&history, 0, sizeof history);
     history.first = the_main.number = number;
@@ -380,6 +385,121 @@ void call_main(const struct profile *profile)
         keep_table(&history.changes[history.count + 1], the_main.memory);
     history.count += acts;
     count_call(acts);
+}
+
+/* ---- images */
+
+/* Space for so many words, at the end of the lent area. */
+static uint32_t *image_space(size_t words)
+{
+    return (uint32_t *)(void *)(image_end - words * sizeof(uint32_t));
+}
+
+/* Makes the call, which may write the first `writes` words of its space and nothing else. */
+static int32_t call_image(const struct caller *caller, size_t memory_size, uint64_t number, size_t space, size_t writes,
+                          size_t *size)
+{
+    const unsigned char *written = (const unsigned char *)(image_space(space) + writes);
+    int32_t result;
+
+    memcpy(before, caller->memory, TABLE);
+    memset(image_space(space), PATTERN, space * sizeof(uint32_t));
+    *size = 99;
+    result = permissions_linked_image(caller->memory, memory_size, number, image_space(space), space, size);
+    if (memcmp(before, caller->memory, TABLE) != 0)
+        fault("an image changed the table");
+    for (const unsigned char *byte = written; byte < image_end; byte++)
+        if (*byte != PATTERN)
+            fault("an image, answered %d, wrote more than %lu words", (int)result, (unsigned long)writes);
+    return result;
+}
+
+/* A call that must be refused, write nothing, and tell this size. */
+static void hold_image_refused(const struct caller *caller, size_t memory_size, uint64_t number, size_t space, int32_t wanted,
+                               size_t wanted_size)
+{
+    size_t size;
+    int32_t result = call_image(caller, memory_size, number, space, 0, &size);
+
+    if (result != wanted || size != wanted_size)
+        fault("an image is answered %d with %lu words, not %d with %lu", (int)result, (unsigned long)size, (int)wanted,
+              (unsigned long)wanted_size);
+    counts.images_refused[-result]++;
+}
+
+static uint64_t number_above(uint64_t number)
+{
+    switch (below(4)) {
+    case 0: return PERMISSIONS_MAX_NUMBER + UINT64_C(1);
+    case 1: return number + (UINT64_C(1) << 24);
+    case 2: return number + (UINT64_C(1) << 32);
+    default: return UINT64_MAX;
+    }
+}
+
+/* An image that is refused, by one cause or by the first of several. */
+static void try_refused_image(const struct caller *caller, size_t size)
+{
+    uint64_t above = number_above(caller->number);
+
+    switch (below(5)) {
+    case 0: hold_image_refused(caller, TABLE, caller->number, size - 1, PERMISSIONS_REFUSAL_NO_SPACE, size); break;
+    case 1: hold_image_refused(caller, TABLE, above, below((uint32_t)size), PERMISSIONS_REFUSAL_NO_SPACE, size); break;
+    case 2: hold_image_refused(caller, TABLE, above, size, PERMISSIONS_REFUSAL_NUMBERS_USED_UP, size); break;
+    case 3: hold_image_refused(caller, TABLE - 1, caller->number, size, PERMISSIONS_REFUSAL_NO_TABLE, 0); break;
+    default: hold_image_refused(caller, TABLE - 1, above, 0, PERMISSIONS_REFUSAL_NO_TABLE, 0); break;
+    }
+}
+
+/* The words of a caller's image, and how many: the size is asked for first, then there is room for it and at times for more. */
+static const uint32_t *image_of(const struct caller *caller, size_t *size)
+{
+    size_t space, told;
+
+    if (call_image(caller, TABLE, caller->number, 0, 0, &space) != PERMISSIONS_REFUSAL_NO_SPACE || space < 2 || space > IMAGE)
+        fault("an image does not tell its size with no space");
+    if (one_in(4))
+        try_refused_image(caller, space);
+    told = space;
+    space += one_in(2) ? below(IMAGE_EXTRA + 1) : 0;
+    if (call_image(caller, TABLE, caller->number, space, told, size) != 0 || *size != told)
+        fault("an image of %lu words is refused, or has %lu", (unsigned long)told, (unsigned long)*size);
+    return image_space(space);
+}
+
+void write_image(void)
+{
+    static unsigned char memory[TABLE];
+    struct change *change = &history.changes[history.count];
+    size_t count;
+    const uint32_t *words = image_of(&the_main, &count);
+
+    if (read_image(words, count, memory) != change->table_size || memcmp(memory, change->table, change->table_size) != 0)
+        fault("an image does not say the main's table");
+    if (image_number(words) != the_main.number)
+        fault("an image has the number %lu, not %lu", (unsigned long)image_number(words), (unsigned long)the_main.number);
+    counts.images++;
+    if (count > counts.largest_image)
+        counts.largest_image = count;
+    if (change->image != NULL)
+        return;
+    change->image_count = count;
+    change->image = malloc(count * sizeof(uint32_t));
+    if (change->image == NULL)
+        fault("no memory is left");
+    memcpy(change->image, words, count * sizeof(uint32_t));
+}
+
+/* Whether two callers write the same image. */
+static int same_image(const struct caller *one, const struct caller *other)
+{
+    static uint32_t first[IMAGE];
+    size_t first_size, size;
+    const uint32_t *words = image_of(one, &first_size);
+
+    memcpy(first, words, first_size * sizeof(uint32_t));
+    words = image_of(other, &size);
+    return size == first_size && memcmp(first, words, size * sizeof(uint32_t)) == 0;
 }
 
 /* ---- two callers with one table */
@@ -431,4 +551,6 @@ void go_on_alike(struct caller *one, struct caller *other, const struct profile 
             fault("after the takeover the child is another one");
         counts.went_on++;
     }
+    if (!same_image(one, other))
+        fault("after the takeover the image is another one");
 }

@@ -3,21 +3,21 @@
 #include "areas.h"
 #include "chance.h"
 #include "link.h"
-#include "mainside.h"
 #include "permissions.h"
 
 #include <string.h>
 
-enum { TABLE = PERMISSIONS_TABLE_BYTES, RECORD = PERMISSIONS_RECORD_WORDS, PATHS_ASKED = 2 };
+enum { TABLE = PERMISSIONS_TABLE_BYTES, IMAGE = PERMISSIONS_IMAGE_WORDS, PATHS_ASKED = 2 };
 
 struct standby the_standby;
 
 static unsigned char *expected;  /* every byte that the standby's memory must hold */
 static unsigned char *reference; /* memory with the main's table after change n, and other bytes behind it */
-static unsigned char *record_end, *path_end, *directory_end;
+static unsigned char *words_end, *path_end, *directory_end;
 
-/* The numbers of all arrivals so far, in sequence. */
-static uint64_t arrivals[MOST_ARRIVALS];
+/* The number that the standby began with, and all that has come to it since, in sequence. */
+static uint64_t begun;
+static struct message arrivals[MOST_ARRIVALS];
 static size_t arrivals_count;
 
 static void make_areas(void)
@@ -27,7 +27,7 @@ static void make_areas(void)
     the_standby.memory = make_area(TABLE) - TABLE;
     expected = make_area(TABLE) - TABLE;
     reference = make_area(TABLE) - TABLE;
-    record_end = make_area(RECORD * sizeof(uint32_t));
+    words_end = make_area(IMAGE * sizeof(uint32_t));
     path_end = make_area(PATH_ROOM);
     directory_end = make_area(PATH_ROOM);
 }
@@ -35,7 +35,7 @@ static void make_areas(void)
 void begin_standby(uint64_t number)
 {
     make_areas();
-    the_standby.last = the_standby.highest = number;
+    begun = the_standby.last = the_standby.highest = number;
     arrivals_count = 0;
     make_noise(the_standby.memory, TABLE);
     make_noise(reference, TABLE);
@@ -46,39 +46,79 @@ void begin_standby(uint64_t number)
 
 /* ---- what the arrivals so far say */
 
-/* How many changes came in sequence, with anything between. */
-size_t reached(void)
+static uint64_t number_of(struct message message)
 {
-    uint64_t next = history.first + 1;
+    return history.first + message.k;
+}
+
+/* The greatest number reached in sequence from the last image taken, with anything between. An image is taken if its number is
+ * above the one reached before it. */
+static uint64_t reached_number(void)
+{
+    uint64_t n = begun;
 
     for (size_t i = 0; i < arrivals_count; i++)
-        if (arrivals[i] == next)
-            next++;
-    return (size_t)(next - 1 - history.first);
+        if (arrivals[i].is_image ? number_of(arrivals[i]) > n : number_of(arrivals[i]) == n + 1)
+            n = number_of(arrivals[i]);
+    return n;
+}
+
+/* A standby that joined late and got no image yet can have a number below the history's first: it has none of its changes. */
+size_t reached(void)
+{
+    uint64_t n = reached_number();
+
+    return n < history.first ? 0 : (size_t)(n - history.first);
+}
+
+/* The number that the records from a place of the arrivals on reach in sequence from n. */
+static uint64_t reached_from(uint64_t n, size_t place)
+{
+    for (; place < arrivals_count; place++)
+        if (!arrivals[place].is_image && number_of(arrivals[place]) == n + 1)
+            n++;
+    return n;
+}
+
+/* The greatest number reached in sequence from the beginning or from any image that came, taken or not. */
+static uint64_t greatest_reached(void)
+{
+    uint64_t greatest = reached_from(begun, 0);
+
+    for (size_t i = 0; i < arrivals_count; i++) {
+        uint64_t n = arrivals[i].is_image ? reached_from(number_of(arrivals[i]), i + 1) : 0;
+        if (n > greatest)
+            greatest = n;
+    }
+    return greatest;
 }
 
 static uint64_t highest_heard(void)
 {
-    uint64_t highest = history.first;
+    uint64_t highest = begun;
 
     for (size_t i = 0; i < arrivals_count; i++)
-        if (arrivals[i] > highest)
-            highest = arrivals[i];
+        if (number_of(arrivals[i]) > highest)
+            highest = number_of(arrivals[i]);
     return highest;
 }
 
 /* ---- the takeover */
 
-static void hold_numbers(size_t n)
+/* Counting from every image that came takes long, and is done now and then. */
+static void hold_numbers(void)
 {
-    if (the_standby.last != history.first + n)
-        fault("the standby says change %lu, and %lu came in sequence", (unsigned long)the_standby.last,
-              (unsigned long)(history.first + n));
+    uint64_t n = reached_number();
+
+    if (the_standby.last != n)
+        fault("the standby says change %lu, and %lu came in sequence", (unsigned long)the_standby.last, (unsigned long)n);
+    if (one_in(300) && greatest_reached() != n)
+        fault("from some image on %lu came in sequence, not %lu", (unsigned long)greatest_reached(), (unsigned long)n);
     if (the_standby.highest != highest_heard())
         fault("the standby's highest number is %lu, not %lu", (unsigned long)the_standby.highest,
               (unsigned long)highest_heard());
-    if (the_standby.highest - the_standby.last > counts.longest_gap)
-        counts.longest_gap = the_standby.highest - the_standby.last;
+    if (n >= history.first && the_standby.highest - n > counts.longest_gap)
+        counts.longest_gap = the_standby.highest - n;
 }
 
 /* The table is the main's after change n, byte for byte, and what is behind it is as it was. */
@@ -149,29 +189,55 @@ static void take_over(const struct profile *profile)
 {
     size_t n = reached();
 
-    hold_numbers(n);
+    hold_numbers();
     hold_table(n);
     hold_owed();
     hold_queries(n, profile);
     count_takeover(history.changes[n].table_size);
 }
 
-void arrive(size_t k, const struct profile *profile)
+/* What the arrival must answer, with change n reached. */
+static int32_t wanted_answer(struct message message, uint64_t n)
 {
-    const struct change *change = &history.changes[k];
-    size_t size = change->words_count * sizeof(uint32_t), n = reached();
-    int32_t wanted = k == n + 1 ? PERMISSIONS_ARRIVAL_APPLIED : k <= n ? PERMISSIONS_ARRIVAL_REPEAT : PERMISSIONS_ARRIVAL_EARLY;
-    int32_t result;
+    uint64_t number = number_of(message);
 
-    memcpy(record_end - size, change->words, size);
-    result = permissions_arrive(the_standby.memory, TABLE, &the_standby.last, &the_standby.highest,
-                                (const uint32_t *)(const void *)(record_end - size), change->words_count);
+    if (number <= n)
+        return PERMISSIONS_ARRIVAL_REPEAT;
+    if (message.is_image)
+        return PERMISSIONS_ARRIVAL_TAKEN;
+    return number == n + 1 ? PERMISSIONS_ARRIVAL_APPLIED : PERMISSIONS_ARRIVAL_EARLY;
+}
+
+static void count_arrival(struct message message, int32_t result, uint64_t n)
+{
+    if (message.is_image)
+        counts.images_came[result]++;
+    else
+        counts.records_came[result]++;
+    if (result == PERMISSIONS_ARRIVAL_TAKEN && n >= history.first)
+        counts.skipped += (unsigned long)(number_of(message) - n);
+}
+
+void arrive(struct message message, const struct profile *profile)
+{
+    const struct change *change = &history.changes[message.k];
+    const uint32_t *words = message.is_image ? change->image : change->words;
+    size_t count = message.is_image ? change->image_count : change->words_count, size = count * sizeof(uint32_t);
+    const uint32_t *lent = (const uint32_t *)(const void *)(words_end - size);
+    uint64_t n = reached_number();
+    int32_t result, wanted = wanted_answer(message, n);
+
+    memcpy(words_end - size, words, size);
+    if (message.is_image)
+        result = permissions_arrive_image(the_standby.memory, TABLE, &the_standby.last, &the_standby.highest, lent, count);
+    else
+        result = permissions_arrive(the_standby.memory, TABLE, &the_standby.last, &the_standby.highest, lent, count);
     if (result != wanted)
-        fault("change %lu is answered %d, not %d, with %lu come in sequence", (unsigned long)(history.first + k), (int)result,
-              (int)wanted, (unsigned long)(history.first + n));
-    if (memcmp(record_end - size, change->words, size) != 0)
-        fault("an arrival changed its record");
-    counts.arrivals[result]++;
-    arrivals[arrivals_count++] = history.first + k;
+        fault("%s %lu is answered %d, not %d, with %lu come in sequence", message.is_image ? "image" : "change",
+              (unsigned long)number_of(message), (int)result, (int)wanted, (unsigned long)n);
+    if (memcmp(words_end - size, words, size) != 0)
+        fault("an arrival changed its words");
+    count_arrival(message, result, n);
+    arrivals[arrivals_count++] = message;
     take_over(profile);
 }

@@ -2,6 +2,7 @@
 #ifndef STANDBYSIDE_H
 #define STANDBYSIDE_H
 
+#include "mainside.h"
 #include "paths.h"
 
 #include <stddef.h>
@@ -19,8 +20,8 @@ extern struct standby the_standby;
 /* A fresh standby with this number, to which nothing has come. */
 void begin_standby(uint64_t number);
 
-/* The record of the history's change k arrives, and the standby is taken over. */
-void arrive(size_t k, const struct profile *profile);
+/* A record or an image of the history arrives, and the standby is taken over. */
+void arrive(struct message message, const struct profile *profile);
 
 /* How many of the history's changes the standby must have, by the arrivals so far. */
 size_t reached(void);

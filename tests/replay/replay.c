@@ -202,7 +202,7 @@ static bool is_dash_next(const struct line *line)
 
 struct replay {
     struct area table, child, standby;
-    struct area path, directory, text, items, ends, answers, records, record;
+    struct area path, directory, text, items, ends, answers, records, words;
     bool is_linked;         /* whether calls are the linked ones */
     uint64_t number;        /* the main's */
     uint64_t last, highest; /* the standby's */
@@ -306,21 +306,21 @@ static bool take_hexadecimal(struct line *line, uint32_t *number)
     return true;
 }
 
-/* Takes all words that are left, as those of a record. Each takes nine bytes of the line. */
-static bool take_record(struct replay *replay, struct line *line, struct numbers *record)
+/* Takes all words that are left, as those of a record or an image. Each takes nine bytes of the line. */
+static bool take_words(struct replay *replay, struct line *line, struct numbers *words)
 {
     size_t i;
 
-    record->count = is_over(line) ? 0 : (line->all.size - line->next + 1) / 9;
-    record->start = (uint32_t *)(void *)lend(&replay->record, record->count * sizeof *record->start);
-    for (i = 0; i < record->count; i++) {
-        if (!take_hexadecimal(line, &record->start[i]))
+    words->count = is_over(line) ? 0 : (line->all.size - line->next + 1) / 9;
+    words->start = (uint32_t *)(void *)lend(&replay->words, words->count * sizeof *words->start);
+    for (i = 0; i < words->count; i++) {
+        if (!take_hexadecimal(line, &words->start[i]))
             return false;
     }
     return is_over(line);
 }
 
-/* The space that a linked call is lent for its records, and how many words it wrote. A plain call writes none. */
+/* The space that a call is lent for its records or its image, and how many words it wrote. A plain call writes none. */
 struct sent {
     uint32_t *words;
     size_t space, size;
@@ -350,16 +350,21 @@ static void print_escaped(const unsigned char *bytes, size_t size)
     }
 }
 
-static void print_sent(const struct sent *sent)
+static void print_words(const char *name, const struct sent *sent)
 {
     size_t i;
 
     if (sent->size == 0)
         return;
-    fputs("records", stdout);
+    fputs(name, stdout);
     for (i = 0; i < sent->size; i++)
         printf(" %08" PRIX32, sent->words[i]);
     putchar('\n');
+}
+
+static void print_sent(const struct sent *sent)
+{
+    print_words("records", sent);
 }
 
 static void print_done(int32_t result)
@@ -376,6 +381,14 @@ static void print_state(int32_t result)
         printf("refused %d\n", (int)-result);
     else
         puts(permissions_state_name(result));
+}
+
+static void print_arrival(int32_t result)
+{
+    if (result < 0)
+        printf("refused %d\n", (int)-result);
+    else
+        puts(permissions_arrival_name(result));
 }
 
 /* What a check or request tells beside its result. */
@@ -729,16 +742,43 @@ static bool call_numbers(struct replay *replay, struct line *line)
 static bool call_arrive(struct replay *replay, struct line *line)
 {
     struct numbers record;
+
+    if (!take_words(replay, line, &record))
+        return false;
+    print_arrival(permissions_arrive(table_of(&replay->standby), PERMISSIONS_TABLE_BYTES, &replay->last,
+                                     &replay->highest, record.start, record.count));
+    return true;
+}
+
+/* The image's size is asked for with no space at all; then the space has that very size. */
+static bool call_image(struct replay *replay, struct line *line)
+{
+    struct sent sent = { NULL, 0, 0 };
+    const unsigned char *table = table_of(&replay->table);
     int32_t result;
 
-    if (!take_record(replay, line, &record))
+    if (!is_over(line))
         return false;
-    result = permissions_arrive(table_of(&replay->standby), PERMISSIONS_TABLE_BYTES, &replay->last, &replay->highest,
-                                record.start, record.count);
-    if (result < 0)
-        printf("refused %d\n", (int)-result);
-    else
-        puts(permissions_arrival_name(result));
+    sent.words = (uint32_t *)(void *)lend(&replay->records, 0);
+    result = permissions_linked_image(table, PERMISSIONS_TABLE_BYTES, replay->number, sent.words, 0, &sent.space);
+    if (result != PERMISSIONS_REFUSAL_NO_SPACE || sent.space > PERMISSIONS_IMAGE_WORDS)
+        fail("an image does not tell its size", 0);
+    sent.words = (uint32_t *)(void *)lend(&replay->records, sent.space * sizeof *sent.words);
+    result = permissions_linked_image(table, PERMISSIONS_TABLE_BYTES, replay->number, sent.words, sent.space, &sent.size);
+    print_done(result);
+    if (result == 0)
+        print_words("image", &sent);
+    return true;
+}
+
+static bool call_load(struct replay *replay, struct line *line)
+{
+    struct numbers image;
+
+    if (!take_words(replay, line, &image))
+        return false;
+    print_arrival(permissions_arrive_image(table_of(&replay->standby), PERMISSIONS_TABLE_BYTES, &replay->last,
+                                           &replay->highest, image.start, image.count));
     return true;
 }
 
@@ -822,6 +862,8 @@ static const struct call {
     { "standby", call_standby },
     { "numbers", call_numbers },
     { "arrive", call_arrive },
+    { "image", call_image },
+    { "load", call_load },
     { "standbylist", call_standbylist },
     { "unit", call_unit },
     { "unitrequest", call_unitrequest },

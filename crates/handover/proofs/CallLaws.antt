@@ -1,5 +1,6 @@
--- What the linked calls send can be recorded: for each of them, whatever it is lent and handed, where memory holds a table and paths are bytes.
-use Prim.Native.Nat.{ℕ, _+_, _-_}
+-- What the linked calls send can be recorded, or is an image of the table: for each of them, whatever it is lent and handed, where memory holds a table
+-- and paths are bytes.
+use Prim.Native.Nat.{ℕ, _+_, _-_, _≤_}
 use mathlib.Core.Path.{_≡_, refl, sym, subst, _∙_}
 use mathlib.Core.List.{List, [], _∷_}
 use mathlib.Core.Option.{Option, none, some}
@@ -7,9 +8,9 @@ use mathlib.Core.Bool.{true}
 use lib.ListN.{length, take, drop}
 use borrow.Author.Tests.{le-leb, ltb-false}
 use Rattle.refusals.specs.declared.Refusal.{Refusal}
-use Rattle.refusals.specs.declared.Refusal.the-variants.{Unknown}
+use Rattle.refusals.specs.declared.Refusal.the-variants.{NoSpace, Unknown, NumbersUsedUp}
 use Rattle.refusals.specs.Refusals.{Result, refused, ok, andThen, unless}
-use Rattle.refusals.proofs.CauseLaws.{no-cause-head, unless-ok}
+use Rattle.refusals.proofs.CauseLaws.{no-cause-head, no-cause-tail, unless-ok}
 use Rattle.paths.specs.declared.Descriptor.{Descriptor}
 use Rattle.paths.specs.Components.{Bytes}
 use Rattle.paths.specs.Resolving.{resolve}
@@ -23,7 +24,7 @@ use Rattle.table.specs.Entries.{kindOf, knownKind}
 use Rattle.table.specs.Tables.{Table, isEntry, isTable}
 use Rattle.table.specs.Acts.{Act, insert, setSwitches, isAct, applyActs}
 use Rattle.table.specs.Memory.{tableOf, holds, doActs}
-use Rattle.table.specs.Carrying.{linked, past, actsOf, actOf, actionOf, fits}
+use Rattle.table.specs.Carrying.{maxNumber, linked, past, actsOf, actOf, actionOf, fits}
 use Rattle.table.specs.Calls.{tableIn, freshIn, recordRoom, knownSwitches, carried, switchesCall, insertCall}
 use Rattle.table.specs.Calls as table-calls
 use Rattle.table.proofs.Puts.{valid-of}
@@ -43,12 +44,14 @@ use Rattle.child.specs.Calls.{Creation, creation, childCall}
 use Rattle.child.specs.Calls as child-calls
 use Rattle.child.proofs.MakingLaws.{item-acts, granting-acts}
 use Rattle.child.proofs.ItemLaws.{stands-query}
+use Rattle.images.specs.Images.{Image}
+use Rattle.link.specs.Imaging.{imageOf, imageCall}
 use Rattle.handover.proofs.RecordableLaws.{Recorded, no-act, Sound, recorded-append, recorded-acted, carried-recorded}
 
 -- ---- steps of a checking order
 
 -- what is handed on, if anything is, has P
-data Hands {A : Type 0} (P : A → Type 0) : Result A → Type 0 where
+pub data Hands {A : Type 0} (P : A → Type 0) : Result A → Type 0 where
   stops : {cause : Refusal} → Hands P (refused cause)
   hands : {x : A} → P x → Hands P (ok x)
 
@@ -182,6 +185,11 @@ items-recorded n cwd m u h C (item-more {i = i} B rest) =
 
 -- ---- each call
 
+-- an image of the table that memory m holds, with the number n
+pub record ImageOf (m : List ℕ) (n : ℕ) (i : Image) : Type 0 where
+  pub is : i ≡ imageOf n (tableOf m)
+  pub few : n ≤ maxNumber
+
 module _ (n : ℕ) (m w : List ℕ) (h : holds m ≡ true) where
   pub switches-recorded : (v : ℕ) → Recorded n (tableOf m) (table-calls.actsIn (switchesCall (linked n w) m v))
   unfolding switchesCall carried
@@ -222,3 +230,9 @@ module _ (n : ℕ) (m w : List ℕ) (h : holds m ≡ true) where
       step (itself (freshIn c)) (λ empty _. on-room (length ends) n w _ (
       step (arguments-bytes code bytes ends responses B) (λ args items.
       hands (then-recorded _ _ _ (items-recorded n cwd m _ h C items) (rw (granting-acts _ _) no-act)))))))
+
+  pub image-made : Hands (ImageOf m n) (imageCall m n w)
+  unfolding imageCall
+  image-made =
+      on-table m _ h (
+      hands-unless _ _ (λ e. record { is = refl; few = ltb-false maxNumber n (no-cause-head _ NumbersUsedUp [] (no-cause-tail _ NoSpace _ e)) }))

@@ -1,23 +1,30 @@
 -- Demand 3, with nothing assumed.
 use mathlib.Core.Path.{sym, _∙_}
+use native.Mathlib.Omega.{arith}
 use Rattle.walk.proofs.QueryLaws.{query-same}
 use Rattle.handover.specs.Handover.{Demand3}
+use Rattle.handover.proofs.SequenceLaws.{within-reach}
+use Rattle.handover.proofs.JudgedLaws.{reached-some, reached-most}
 use Rattle.handover.proofs.MainLaws.{main-is}
 use Rattle.handover.proofs.StandbyLaws.{standby-is}
 
 pub handover : Demand3
-handover a acts wrote s came answers R Q =
+handover a acts sent wrote s came answers R Q =
     let M = main-is R in
-    let S = standby-is (M .recorded) Q in
+    let S = standby-is M Q in
     record {
       holding = S .holding;
       table = S .table;
       reached = S .reached;
-      greatest = S .greatest;
+      greatest = λ k I. omega (arith, within-reach I, S .number);
+      reached-so = reached-some (S .reached);
+      greatest-so = λ k K. omega (arith, reached-most K, S .number);
       queries = λ m h t. query-same (s .memory) m (S .holding) h (S .table ∙ sym t);
       unrefused = S .unrefused;
       standing = M .holding;
       main = M .table;
       counted = M .number;
+      records = M .records;
+      images = λ i m. M .images i m .is;
       written = M .written;
     }

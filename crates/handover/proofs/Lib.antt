@@ -1,7 +1,10 @@
 pub mod RecordableLaws
 pub mod CallLaws
-pub mod MainLaws
+pub mod MessageLaws
 pub mod SequenceLaws
+pub mod JudgedLaws
+pub mod MainLaws
+pub mod BytesLaws
 pub mod StandbyLaws
 pub mod Handover
 pub mod StepLaws

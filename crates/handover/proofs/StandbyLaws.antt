@@ -1,15 +1,28 @@
--- What holds of the standby after any list of arrivals of the main's records.
-use Prim.Native.Nat.{ℕ, zero, suc, _+_, _≤_, _<_}
-use mathlib.Core.Path.{_≡_, refl, ap, _∙_}
-use mathlib.Core.List.{List, [], _∷_, _++_, List·Memᴰ, List·Memᴰ·append-cases, List·Memᴰ·eq-of-singleton, List·Memᴰ·not-nil, Sublistᴰ·slnil, Sublistᴰ·eq-nil}
-use mathlib.Core.Option.{some}
-use mathlib.Core.Bool.{true, false}
-use mathlib.Core.Logic.{_⊎_, inl, inr}
+-- What holds of the standby after any list of arrivals of what the main sent.
+use Prim.Native.Nat.{ℕ, suc, _+_, _≤_, _<_}
+use mathlib.Core.Path.{_≡_, refl, _∙_}
+use mathlib.Core.List.{
+  List,
+  [],
+  _∷_,
+  _++_,
+  List·Memᴰ,
+  List·Memᴰ·head,
+  List·Memᴰ·tail,
+  List·Memᴰ·append-cases,
+  List·Memᴰ·eq-of-singleton,
+  List·Memᴰ·not-nil,
+}
+use mathlib.Core.Option.{none, some}
+use mathlib.Core.Bool.{Bool, true, false, cond}
+use mathlib.Core.Logic.{⊎-elim}
 use native.Mathlib.Numerals.{add-one}
 use native.Mathlib.Nat.{zero-add}
 use native.Mathlib.Omega.{arith}
 use lib.ListN.{length, getD, take}
-use lib.Seq.{length-take-le, take-suc}
+use lib.Seq.{take-suc}
+use lib.Dec.{ltb}
+use borrow.Author.Tests.{eq-eqb, ne-eqb}
 use Rattle.refusals.specs.declared.Refusal.{Refusal}
 use Rattle.refusals.specs.Refusals.{firstCause, Result, ok}
 use Rattle.table.specs.Tables.{Table, fresh}
@@ -17,48 +30,61 @@ use Rattle.table.specs.Acts.{Act, revokeAll, actOverflows, applyActs}
 use Rattle.table.specs.Memory.{tableOf, holds}
 use Rattle.table.specs.Carrying.{usedUp, carryCause}
 use Rattle.table.proofs.ActLaws.{applied-append, acted-none, acted-one}
+use Rattle.table.proofs.Puts.{long-of, left-put}
 use Rattle.records.specs.Records.{Change, changeWords, numbered, readChange}
 use Rattle.records.proofs.RecordLaws.{read-back}
+use Rattle.images.specs.Images.{Image, imageWords}
+use Rattle.images.proofs.ImageLaws.{image-read}
 use Rattle.standby.specs.declared.Numbers.{Numbers}
 use Rattle.standby.specs.declared.Arrival.{Arrival}
 use Rattle.standby.specs.declared.Arrival.the-variants.{Applied, Repeat, Early, Refused}
 use Rattle.standby.specs.Arriving.{Taken, higher, passedBy, taken, answerIn, actsIn, numbersIn, Comes, Arrives}
+use Rattle.standby.specs.Loading.{takenOf, answerOf, memoryOf, numbersOf, Brings, Loads}
 use Rattle.standby.proofs.ArrivingLaws.{arrival-taken, taken-by, applied-room}
-use Rattle.standby.proofs.KeepLaws.{Raises, taken-raises}
-use Rattle.handover.specs.Handover.{recordsOf, records, Standby, Arrivals, freshStandby, thenArrival, InSequence}
+use Rattle.standby.proofs.KeepLaws.{higher-least, Raises, taken-raises}
+use Rattle.standby.proofs.LoadingLaws.{loading-image}
+use Rattle.handover.specs.Handover.{
+  Main,
+  Message,
+  changed,
+  image,
+  Standby,
+  Arrivals,
+  freshStandby,
+  thenRecord,
+  thenLoad,
+  reach,
+  Judged,
+  judgedBy,
+  judgedFrom,
+  judged,
+  InSequence,
+}
 use Rattle.handover.proofs.RecordableLaws.{Recorded, recorded-at}
-use Rattle.handover.proofs.SequenceLaws.{place-of, sequence-kept, sequence-next, Back, before, by-one, sequence-back}
+use Rattle.handover.proofs.MessageLaws.{change-among}
+use Rattle.handover.proofs.SequenceLaws.{changeAt, reach-more, sequence-kept, sequence-next, sequence-none}
+use Rattle.handover.proofs.JudgedLaws.{reachOf, judged-more}
+use Rattle.handover.proofs.MainLaws.{Imaged, MainIs}
 
--- ---- the main's records
+-- ---- a change of the main's
 
-pub record-count : (n : ℕ) (acts : List Act) → length (recordsOf (numbered n acts)) ≡ length acts
-unfolding recordsOf numbered
-record-count n [] = refl
-record-count n (act ∷ acts) = ap suc (record-count (n + 1) acts)
+-- where it stands
+record Place (n : ℕ) (acts : List Act) (c : Change) : Type 0 where
+  place : ℕ
+  within : place < length acts
+  is : c ≡ record { number = n + place + 1; act = getD acts place revokeAll }
 
-record-at : (n : ℕ) (acts : List Act) (k : ℕ) → k < length acts
-    → getD (recordsOf (numbered n acts)) k [] ≡ changeWords (record { number = n + k + 1; act = getD acts k revokeAll })
-unfolding recordsOf numbered
-record-at n [] k h = absurd (omega arith)
-record-at n (act ∷ acts) zero h = let same : n + 0 + 1 ≡ n + 1 = omega arith in rw same
-record-at n (act ∷ acts) (suc k) h = let same : n + suc k + 1 ≡ n + 1 + k + 1 = omega arith in rw same (record-at (n + 1) acts k (omega arith))
+place-of : (n : ℕ) (acts : List Act) {c : Change} → List·Memᴰ c (numbered n acts) → Place n acts c
+unfolding numbered
+place-of n [] m = absurd (List·Memᴰ·not-nil m)
+place-of n (act ∷ acts) (List·Memᴰ·head e) = let same : n + 0 + 1 ≡ n + 1 = omega arith in record { place = 0; within = omega arith; is = rw same e }
+place-of n (act ∷ acts) (List·Memᴰ·tail m) =
+    let P = place-of (n + 1) acts m in
+    let same : n + suc (P .place) + 1 ≡ n + 1 + P .place + 1 = omega arith in
+    record { place = suc (P .place); within = omega (arith, P .within); is = rw same (P .is) }
 
--- the record and the change behind the first k
-abbrev recordAt : List Act → ℕ → List ℕ
-recordAt acts k = getD (records acts) k []
-
-abbrev changeAt : List Act → ℕ → Change
-changeAt acts k = record { number = k + 1; act = getD acts k revokeAll }
-
-module _ {acts : List Act} (R : Recorded 0 fresh acts) where
-  reads : (k : ℕ) → k < length acts → readChange (recordAt acts k) ≡ some (changeAt acts k)
-  reads k h = rw (record-at 0 acts k h, zero-add) (read-back _ (rw zero-add at (recorded-at R k h .readable)))
-
-  -- so no two records are the same
-  one-place : (j k : ℕ) → j < length acts → k < length acts → recordAt acts j ≡ recordAt acts k → j ≡ k
-  one-place j k h l e =
-      let same : changeAt acts j ≡ changeAt acts k = cc (reads j h, reads k l) in
-      omega (arith, ap (λ (c : Change). c .number) same)
+reads : {acts : List Act} → Recorded 0 fresh acts → (k : ℕ) → k < length acts → readChange (changeWords (changeAt acts k)) ≡ some (changeAt acts k)
+reads R k h = read-back _ (rw zero-add at (recorded-at R k h .readable))
 
 -- ---- an arrival that is not refused
 
@@ -79,79 +105,97 @@ next-or-other t s c room =
 
 -- ---- any list of arrivals
 
--- memory and numbers of the standby
-pub record StandbyIs (acts : List Act) (m : List ℕ) (s : Numbers) (came : List (List ℕ)) (answers : List Arrival) : Type 0 where
+-- memory and numbers of the standby, and what is judged from the arrivals
+pub record StandbyIs (acts : List Act) (m : List ℕ) (s : Numbers) (j : Judged) (answers : List Arrival) : Type 0 where
   pub holding : holds m ≡ true
   pub table : tableOf m ≡ applyActs fresh (take (s .n) acts)
   pub ordered : s .n ≤ s .h
-  pub reached : InSequence (records acts) came (s .n)
-  pub greatest : (k : ℕ) → InSequence (records acts) came k → k ≤ s .n
+  pub number : s .n ≡ reachOf j
+  pub reached : InSequence acts (j .base) (j .since) (s .n)
   pub unrefused : (cause : Refusal) → List·Memᴰ (Refused cause) answers → ⊥
 
 unrefused-more : {answers : List Arrival} {r : Arrival} → ((cause : Refusal) → List·Memᴰ (Refused cause) answers → ⊥)
     → ((cause : Refusal) → Refused cause ≡ r → ⊥) → (cause : Refusal) → List·Memᴰ (Refused cause) (answers ++ r ∷ []) → ⊥
-unrefused-more {answers} {r} f g cause m = by (List·Memᴰ·append-cases answers m)
-  where
-    by : List·Memᴰ (Refused cause) answers ⊎ List·Memᴰ (Refused cause) (r ∷ []) → ⊥
-    by (inl x) = f cause x
-    by (inr x) = g cause (List·Memᴰ·eq-of-singleton x)
+unrefused-more {answers} f g cause m = ⊎-elim (f cause) (λ x. g cause (List·Memᴰ·eq-of-singleton x)) (List·Memᴰ·append-cases answers m)
 
-module _ {acts : List Act} (R : Recorded 0 fresh acts) {m : List ℕ} {s : Numbers} {came : List (List ℕ)} {answers : List Arrival}
-    (S : StandbyIs acts m s came answers) (k : ℕ) (h : k < length acts) where
-  room : k + 1 ≡ s .n + 1 → actOverflows (tableOf m) (getD acts k revokeAll) ≡ false
-  room e = let at : s .n ≡ k = omega arith in rw (S .table, at) (recorded-at R k h .room)
+module _ {acts : List Act} {m : List ℕ} {s : Numbers} {j : Judged} {answers : List Arrival} (S : StandbyIs acts m s j answers) where
+  -- a record
+  module _ (R : Recorded 0 fresh acts) (k : ℕ) (h : k < length acts) where
+    room : k + 1 ≡ s .n + 1 → actOverflows (tableOf m) (getD acts k revokeAll) ≡ false
+    room e = let at : s .n ≡ k = omega arith in rw (S .table, at) (recorded-at R k h .room)
 
-  -- how far the records reach with it
-  reach : (j : ℕ) → InSequence (records acts) (came ++ recordAt acts k ∷ []) j → (j ≤ s .n + 1) × ((k + 1 ≡ s .n + 1 → ⊥) → j ≤ s .n)
-  reach j I = by (sequence-back I)
-    where
-      by : Back (records acts) came (recordAt acts k) j → (j ≤ s .n + 1) × ((k + 1 ≡ s .n + 1 → ⊥) → j ≤ s .n)
-      by (before B) = omega (arith, S .greatest j B)
-      by (by-one i e f B) = omega (arith, S .greatest i B, one-place R i k (omega (arith, record-count 0 acts, I .made)) h f)
+    arrived-by : {call : Result Taken} {m′ : List ℕ} {s′ : Numbers} {r : Arrival} → NextOrOther s (changeAt acts k) call → Raises s (numbersIn call s)
+        → Comes call m s m′ s′ r → StandbyIs acts m′ s′ (judgedBy j (changed (changeAt acts k))) (answers ++ r ∷ [])
+    unfolding answerIn actsIn numbersIn judgedBy
+    arrived-by (next e) U C =
+        let at : s .n ≡ k = omega arith in
+        let A = acted-one m (getD acts k revokeAll) (S .holding) (recorded-at R k h .readable .fits) (room e) in
+        rw (C .memory, C .numbers, C .answer) (record {
+          holding = A .holding;
+          table = A .table ∙ rw (S .table, at, add-one, take-suc acts k revokeAll h, applied-append);
+          ordered = U .ordered (S .ordered);
+          number = rw (reach-more (j .base) (j .since) (changeAt acts k), ← S .number, eq-eqb (k + 1) (s .n + 1) e);
+          reached = rw at (sequence-next (rw at at (S .reached)) h);
+          unrefused = unrefused-more (S .unrefused) (λ cause q. let z : _≡_ {A = ℕ} 0 1 = cc in omega arith);
+        })
+    arrived-by (other f e) U C =
+        let A = acted-none m (S .holding) in
+        rw (C .memory, C .numbers, C .answer) (record {
+          holding = A .holding;
+          table = A .table ∙ (unfold applyActs in S .table);
+          ordered = U .ordered (S .ordered);
+          number = rw (reach-more (j .base) (j .since) (changeAt acts k), ← S .number, ne-eqb (k + 1) (s .n + 1) e);
+          reached = sequence-kept (S .reached) (changeAt acts k);
+          unrefused = unrefused-more (S .unrefused) f;
+        })
 
-  arrived-more : {call : Result Taken} {m′ : List ℕ} {s′ : Numbers} {r : Arrival} → NextOrOther s (changeAt acts k) call → Raises s (numbersIn call s) → Comes call m s m′ s′ r
-      → StandbyIs acts m′ s′ (came ++ recordAt acts k ∷ []) (answers ++ r ∷ [])
-  unfolding answerIn actsIn numbersIn
-  arrived-more (next e) U C =
-      let at : s .n ≡ k = omega arith in
-      let A = acted-one m (getD acts k revokeAll) (S .holding) (recorded-at R k h .readable .fits) (room e) in
-      rw (C .memory, C .numbers, C .answer) (record {
-        holding = A .holding;
-        table = A .table ∙ rw (S .table, at, add-one, take-suc acts k revokeAll h, applied-append);
-        ordered = U .ordered (S .ordered);
-        reached = rw at (sequence-next (omega (arith, record-count 0 acts)) (rw at at (S .reached)));
-        greatest = λ j I. reach j I .0;
-        unrefused = unrefused-more (S .unrefused) (λ cause q. let z : _≡_ {A = ℕ} 0 1 = cc in omega arith);
-      })
-  arrived-more (other f e) U C =
-      let A = acted-none m (S .holding) in
-      rw (C .memory, C .numbers, C .answer) (record {
-        holding = A .holding;
-        table = A .table ∙ (unfold applyActs in S .table);
-        ordered = U .ordered (S .ordered);
-        reached = sequence-kept (recordAt acts k) (S .reached);
-        greatest = λ j I. reach j I .1 e;
-        unrefused = unrefused-more (S .unrefused) f;
-      })
+    arrived : {m′ : List ℕ} {s′ : Numbers} {r : Arrival} → Arrives m (changeWords (changeAt acts k)) s m′ s′ r
+        → StandbyIs acts m′ s′ (judgedBy j (changed (changeAt acts k))) (answers ++ r ∷ [])
+    arrived C =
+        arrived-by (next-or-other (tableOf m) s (changeAt acts k) room) (taken-raises s (tableOf m) (changeAt acts k))
+        (rw (arrival-taken m _ s (S .holding) (S .ordered) (reads R k h)) at C)
 
-  arrived : {m′ : List ℕ} {s′ : Numbers} {r : Arrival} → Arrives m (recordAt acts k) s m′ s′ r
-      → StandbyIs acts m′ s′ (came ++ recordAt acts k ∷ []) (answers ++ r ∷ [])
-  arrived C =
-      arrived-more (next-or-other (tableOf m) s (changeAt acts k) room) (taken-raises s (tableOf m) (changeAt acts k))
-      (rw (arrival-taken m (recordAt acts k) s (S .holding) (S .ordered) (reads R k h)) at C)
+  -- an image
+  module _ {i : Image} (I : Imaged acts i) {m′ : List ℕ} {s′ : Numbers} {r : Arrival} where
+    loaded-by : (b : Bool) → Brings (ok (cond b (some i) none)) m s m′ s′ r
+        → StandbyIs acts m′ s′ (cond b (record { base = i .number; since = [] }) j) (answers ++ r ∷ [])
+    unfolding answerOf memoryOf numbersOf reach
+    loaded-by true C =
+        let L = left-put m _ (i .table) (I .writable .within) (long-of m (S .holding)) refl in
+        rw (C .memory, C .numbers, C .answer) (record {
+          holding = L .holding;
+          table = L .table ∙ I .is .table;
+          ordered = higher-least (s .h) (i .number) .1;
+          number = refl;
+          reached = sequence-none (I .is .made);
+          unrefused = unrefused-more (S .unrefused) (λ cause q. let z : _≡_ {A = ℕ} 0 1 = cc in omega arith);
+        })
+    loaded-by false C = rw (C .memory, C .numbers, C .answer) (record {
+      holding = S .holding;
+      table = S .table;
+      ordered = S .ordered;
+      number = S .number;
+      reached = S .reached;
+      unrefused = unrefused-more (S .unrefused) (λ cause q. let z : _≡_ {A = ℕ} 0 1 = cc in omega arith);
+    })
 
-pub standby-is : {acts : List Act} {s : Standby} {came : List (List ℕ)} {answers : List Arrival} → Recorded 0 fresh acts
-    → Arrivals Arrives (records acts) s came answers → StandbyIs acts (s .memory) (s .numbers) came answers
-unfolding applyActs
-standby-is {acts} {s} R (freshStandby F e f) = record {
+    loaded : Loads m (imageWords i) s m′ s′ r → StandbyIs acts m′ s′ (judgedBy j (image i)) (answers ++ r ∷ [])
+    unfolding judgedBy takenOf
+    loaded C = rw (← S .number) (loaded-by (ltb (s .n) (i .number)) (rw (loading-image m _ s (S .holding) (S .ordered) (image-read (I .writable))) at C))
+
+pub standby-is : {a : Main} {acts : List Act} {sent : List Message} {wrote : List ℕ} {s : Standby} {came : List Message} {answers : List Arrival}
+    → MainIs a acts sent wrote → Arrivals Arrives Loads sent s came answers → StandbyIs acts (s .memory) (s .numbers) (judged came) answers
+unfolding applyActs judgedFrom reach
+standby-is M (freshStandby F e f) = record {
   holding = F .holding;
   table = F .table ∙ rw e;
   ordered = omega arith;
-  reached = record { made = omega arith; arrived = rw e Sublistᴰ·slnil };
-  greatest = λ k I. omega (arith, length-take-le k (records acts) (I .made), ap length (Sublistᴰ·eq-nil (I .arrived)));
+  number = e;
+  reached = rw e (sequence-none (omega arith));
   unrefused = λ cause m. List·Memᴰ·not-nil m;
 }
-standby-is {acts} R (thenArrival A m C e f) =
-    let S = standby-is R A in
-    let P = place-of m in
-    rw (e, f, ← P .is) (arrived R S (P .place) (omega (arith, record-count 0 acts, P .within)) (rw (← P .is) at C))
+standby-is {acts = acts} M (thenRecord {came = came} {c = c} A x C e f) =
+    let P = place-of 0 acts (rw (M .records) at (change-among x)) in
+    let same : c ≡ changeAt acts (P .place) = P .is ∙ rw zero-add in
+    rw (e, f, judged-more came (changed c), same) (arrived (standby-is M A) (M .recorded) (P .place) (P .within) (rw same at C))
+standby-is M (thenLoad {came = came} {i = i} A x C e f) = rw (e, f, judged-more came (image i)) (loaded (standby-is M A) (M .images i x) C)

@@ -1,7 +1,8 @@
 -- Laws of single steps: each call has a next main, and what goes on from a main or a standby whose table is known.
-use Prim.Native.Nat.{ℕ, _+_}
+use Prim.Native.Nat.{ℕ, zero, suc, _+_}
 use mathlib.Core.Path.{_≡_, refl, sym, ap, _∙_}
 use mathlib.Core.List.{List, [], _∷_, _++_, List·Memᴰ}
+use mathlib.Core.Option.{Option, none, some}
 use mathlib.Core.Bool.{Bool, true, _&&_, not}
 use native.Mathlib.Omega.{arith}
 use lib.ListN.{length, take, replicate, length-append, length-replicate}
@@ -9,10 +10,11 @@ use lib.Seq.{take-append-seam}
 use lib.Dec.{ltb}
 use borrow.Author.Tests.{not-true}
 use Rattle.refusals.specs.declared.Refusal.the-variants.{NoTable}
-use Rattle.refusals.specs.Refusals.{when, firstCause, Result, ok, andThen, unless, causeOf}
+use Rattle.refusals.specs.Refusals.{when, firstCause, Result, refused, ok, andThen, unless, causeOf}
 use Rattle.paths.specs.declared.Descriptor.{Descriptor}
 use Rattle.paths.specs.Components.{Bytes}
 use Rattle.paths.specs.Copying.{begun}
+use Rattle.paths.proofs.ByteLaws.{bytes-none, bytes-cons}
 use Rattle.paths.proofs.ComponentLaws.{and-left, and-right}
 use Rattle.table.specs.Tables.{Table, fresh, pathBytes, every, any, present, marksOf, isTable}
 use Rattle.table.specs.Acts.{Act, isAct, actOverflows, applyAct, applyActs}
@@ -22,7 +24,7 @@ use Rattle.table.specs.Calls.{tableIn, switchesCall, insertCall}
 use Rattle.table.specs.Calls as table-calls
 use Rattle.table.proofs.ActLaws.{Acted, acted-none, acted-one, acted-append, applied-append}
 use Rattle.table.proofs.CallLaws.{a-table}
-use Rattle.table.proofs.Puts.{tableOf-put, holds-put}
+use Rattle.table.proofs.Puts.{tableOf-put, long-of, holds-put, left-put}
 use Rattle.walk.specs.declared.Answer.{Answer}
 use Rattle.walk.specs.Calls.{queryAnswer}
 use Rattle.calls.specs.declared.Call.{Call}
@@ -31,12 +33,16 @@ use Rattle.calls.specs.Calls.{askedIn, askCall, textDue, revokeCall}
 use Rattle.calls.specs.Calls as calls
 use Rattle.child.specs.Calls.{Creation, childCall, refusalIn, childAfter}
 use Rattle.child.specs.Calls as child-calls
-use Rattle.records.specs.Records.{numbered, allWords, readChange}
+use Rattle.records.specs.Records.{Change, changeWords, numbered, allWords, readChange}
+use Rattle.images.specs.Images.{Image, imageWords, imageSize, no-entry, Writable}
+use Rattle.images.proofs.ImageLaws.{image-read}
+use Rattle.link.specs.declared.ImageSent.{ImageSent}
 use Rattle.link.specs.Sending.{Sends}
-use Rattle.link.proofs.SendingLaws.{numbered-append}
+use Rattle.link.specs.Imaging.{imageCall, wordsIn, sizeIn, WritesImage}
 use Rattle.standby.specs.declared.Numbers.{Numbers}
 use Rattle.standby.specs.declared.Arrival.{Arrival}
 use Rattle.standby.specs.Arriving.{standbyIn, wellFormed, Taken, arrival, answerIn, actsIn, numbersIn, Arrives}
+use Rattle.standby.specs.Loading.{isImage, loading, answerOf, memoryOf, numbersOf, Loads}
 use Rattle.handover.specs.Handover.{
   IsFresh,
   Main,
@@ -46,16 +52,27 @@ use Rattle.handover.specs.Handover.{
   revokes,
   creates,
   queries,
+  Message,
+  changed,
+  image,
+  changesSent,
+  imageSent,
   Calls,
   freshMain,
   thenCall,
-  records,
+  thenImage,
+  allMessageWords,
+  Promise,
   Arrivals,
   freshStandby,
-  thenArrival,
+  thenRecord,
+  thenLoad,
 }
-use Rattle.handover.specs.Witness.{Line, inserting, switching, asking, revoking, creating, querying, lineOf, script, after, Steps}
-use Rattle.handover.specs.Wrong.{Taking, arrivalBy, By}
+use Rattle.handover.specs.Witness.{Line, inserting, switching, asking, revoking, creating, querying, imaging, lineOf, script, after, Steps}
+use Rattle.handover.specs.Wrong.{Taking, By, Choosing, loadingBy, LoadBy}
+use Rattle.handover.proofs.MessageLaws.{words-append, words-sent, words-image}
+use Rattle.handover.proofs.MainLaws.{image-wrote}
+use Rattle.handover.proofs.BytesLaws.{put-bytes, step-bytes}
 
 -- ---- each promise says all that its call leaves, so that any call on any main has a step, whatever it is lent, handed and answered; `call` is what the
 -- call comes to
@@ -158,10 +175,20 @@ query-steps a mode d p cwd r e =
     let same : a .number + 0 ≡ a .number = omega arith in
     record { step = queries mode d p cwd r e (λ i. record { memory = a .memory; number = same i }) refl refl; is = refl }
 
--- and so any arrival
+-- so has the image call
+abbrev answered : List ℕ → ℕ → List ℕ → ImageSent
+answered m n w = record { outcome = outcomeOf (causeOf (imageCall m n w)); words = sizeIn (tableIn m) }
+
+pub writes-image : (m : List ℕ) (n : ℕ) (w : List ℕ) → WritesImage m n w (begun (wordsIn (imageCall m n w)) w) (answered m n w)
+writes-image m n w = record { outcome = refl; words = refl; size = refl }
+
+-- and any arrival
 pub arrives : (m words : List ℕ) (s : Numbers)
     → Arrives m words s (doActs m (actsIn (arrival m words s))) (numbersIn (arrival m words s) s) (answerIn (arrival m words s))
 arrives m words s = record { answer = refl; memory = refl; numbers = refl }
+
+pub loads : (m words : List ℕ) (s : Numbers) → Loads m words s (memoryOf (loading m words s) m) (numbersOf (loading m words s) s) (answerOf (loading m words s))
+loads m words s = record { answer = refl; memory = refl; numbers = refl }
 
 -- ---- a known table
 
@@ -179,91 +206,146 @@ acted-all m (act ∷ acts) h f =
     let one = acted-one m act h (and-left (isAct act) _ this) (not-true _ (and-right (isAct act) _ this)) in
     acted-append (act ∷ []) acts one (acted-all (doActs m (act ∷ [])) acts (one .holding) (rw (one .table) (and-right fits _ f)))
 
--- memory holds a fresh table with these acts done in turn
-pub record Stands (m : List ℕ) (done : List Act) : Type 0 where
+-- memory holds this table
+pub record Stands (m : List ℕ) (t : Table) : Type 0 where
   pub holding : holds m ≡ true
-  pub table : tableOf m ≡ applyActs fresh done
+  pub table : tableOf m ≡ t
 
-stands-fresh : {m : List ℕ} → IsFresh m → Stands m []
-unfolding applyActs
-stands-fresh f = record { holding = f .holding; table = f .table }
-
-stands-then : {m : List ℕ} {done : List Act} → Stands m done → (new : List Act) → allFit (applyActs fresh done) new ≡ true
-    → Stands (doActs m new) (done ++ new)
-stands-then {m} {done} S new f =
+stands-then : {m : List ℕ} {t : Table} → Stands m t → (new : List Act) → allFit t new ≡ true → Stands (doActs m new) (applyActs t new)
+stands-then {m} S new f =
     let A = acted-all m new (S .holding) (rw (S .table) f) in
-    record { holding = A .holding; table = rw (applied-append fresh done new) (A .table ∙ ap (λ (t : Table). applyActs t new) (S .table)) }
+    record { holding = A .holding; table = rw (← S .table) (A .table) }
 
-pub table-in : {m : List ℕ} {done : List Act} → Stands m done → tableIn m ≡ ok (applyActs fresh done)
+pub table-in : {m : List ℕ} {t : Table} → Stands m t → tableIn m ≡ ok t
 table-in {m} S = a-table m (S .holding) ∙ ap ok (S .table)
 
 -- ---- a main goes on
 
--- calls with these acts and these lines
-pub record Run (done : List Act) (lines : List Line) : Type 0 where
+-- calls with these acts, messages and lines
+pub record Run (done : List Act) (sent : List Message) (lines : List Line) : Type 0 where
   pub main : Main
-  pub calls : Calls main done (allWords (numbered 0 done))
+  pub calls : Calls main done sent (allMessageWords sent)
   pub said : script calls ≡ lines
-  pub stands : Stands (main .memory) done
+  pub stands : Stands (main .memory) (applyActs fresh done)
+  pub bytes : Bytes (main .memory)
   pub number : main .number ≡ length done
 
-pub run-fresh : {m : List ℕ} → IsFresh m → Run [] []
-unfolding script numbered allWords
-run-fresh {m} f = record {
+pub run-fresh : {m : List ℕ} → IsFresh m → Bytes m → Run [] [] []
+unfolding script allMessageWords applyActs
+run-fresh {m} f b = record {
   main = record { memory = m; number = 0 };
   calls = freshMain f refl;
   said = refl;
-  stands = stands-fresh f;
+  stands = record { holding = f .holding; table = f .table };
+  bytes = b;
   number = refl;
 }
 
-pub run-then : {done new : List Act} {lines : List Line} {line : Line} (R : Run done lines) → Steps (R .main) new line
-    → allFit (applyActs fresh done) new ≡ true → Run (done ++ new) (lines ++ line ∷ [])
-unfolding script
-run-then {done} {new} R S f =
-    let on : 0 + length done ≡ R .main .number = omega (arith, R .number) in
-    record {
-      main = after (R .main) new;
-      calls = thenCall {written = allWords (numbered 0 (done ++ new))} (R .calls) (S .step) refl (rw (← on) (numbered-append 0 done new));
-      said = rw (R .said, S .is);
-      stands = stands-then (R .stands) new f;
-      number = omega (arith, R .number, length-append done new);
-    }
+module _ {done : List Act} {sent : List Message} {lines : List Line} (R : Run done sent lines) where
+  pub run-then : {new : List Act} {line : Line} → Steps (R .main) new line → allFit (applyActs fresh done) new ≡ true
+      → Run (done ++ new) (sent ++ changesSent (numbered (length done) new)) (lines ++ line ∷ [])
+  unfolding script
+  run-then {new} S f =
+      let told = changesSent (numbered (length done) new) in
+      record {
+        main = after (R .main) new;
+        calls = thenCall {told = sent ++ told} {written = allMessageWords (sent ++ told)} (R .calls) (S .step) refl (rw (R .number))
+            (rw (words-append sent told, words-sent (numbered (length done) new), R .number));
+        said = rw (R .said, S .is);
+        stands = rw (applied-append fresh done new) (stands-then (R .stands) new f);
+        bytes = step-bytes (R .bytes) (R .stands .holding) (S .step);
+        number = omega (arith, R .number, length-append done new);
+      }
+
+  -- an image call that comes to this
+  pub run-image : (w : List ℕ) (call : Result Image) → imageCall (R .main .memory) (R .main .number) w ≡ call
+      → Run done (sent ++ imageSent call) (lines ++ imaging (length w) (outcomeOf (causeOf call)) (imageSize (applyActs fresh done)) ∷ [])
+  unfolding script sizeIn
+  run-image w call e =
+      let W = writes-image (R .main .memory) (R .main .number) w in
+      record {
+        main = R .main;
+        calls = thenImage {told = sent ++ imageSent call} {written = allMessageWords (sent ++ imageSent call)} (R .calls) w _ _ (R .bytes) W (rw e)
+            (rw (words-append sent (imageSent call), image-wrote (R .stands .holding) W, e, words-image call));
+        said = rw (R .said, e, table-in (R .stands));
+        stands = R .stands;
+        bytes = R .bytes;
+        number = R .number;
+      }
 
 -- ---- a standby goes on
 
--- arrivals of the records of `acts`, with these answers, after which the acts `done` are done
-pub record Followed (taking : Taking) (acts : List Act) (came : List (List ℕ)) (answers : List Arrival) (done : List Act) (s : Numbers) : Type 0 where
+-- arrivals of what was sent, with these answers, after which memory holds the table t
+pub record Followed (Arriving Loading : Promise) (sent came : List Message) (answers : List Arrival) (t : Table) (s : Numbers) : Type 0 where
   pub memory : List ℕ
-  pub arrivals : Arrivals (By taking) (records acts) (record { memory = memory; numbers = s }) came answers
-  pub stands : Stands memory done
+  pub arrivals : Arrivals Arriving Loading sent (record { memory = memory; numbers = s }) came answers
+  pub stands : Stands memory t
 
-pub followed-fresh : {taking : Taking} {acts : List Act} {m : List ℕ} → IsFresh m → Followed taking acts [] [] [] (record { n = 0; h = 0 })
-followed-fresh {m = m} f = record { memory = m; arrivals = freshStandby f refl refl; stands = stands-fresh f }
+pub followed-fresh : {Arriving Loading : Promise} {sent : List Message} {m : List ℕ} → IsFresh m → Followed Arriving Loading sent [] [] fresh (record { n = 0; h = 0 })
+followed-fresh {m = m} f = record { memory = m; arrivals = freshStandby f refl refl; stands = record { holding = f .holding; table = f .table } }
 
--- what words come to where these acts are done
-abbrev next : Taking → List Act → Numbers → List ℕ → Result Taken
-next taking done s words =
-    andThen (unless (firstCause (when (ltb (s .h) (s .n)) NoTable ∷ [])) (applyActs fresh done)) (λ t.
-    andThen (wellFormed (readChange words)) (λ c.
-    taking t s c))
+-- the table that arrivals meet
+abbrev met : Table → Numbers → Result Table
+met t s = unless (firstCause (when (ltb (s .h) (s .n)) NoTable ∷ [])) t
 
-next-is : (taking : Taking) {m : List ℕ} {done : List Act} → Stands m done → (s : Numbers) (words : List ℕ)
-    → arrivalBy taking m words s ≡ next taking done s words
+met-is : {m : List ℕ} {t : Table} → Stands m t → (s : Numbers) → standbyIn m s ≡ met t s
 unfolding standbyIn firstCause
-next-is taking S s words = rw (S .holding, S .table)
+met-is S s = rw (S .holding, S .table)
 
-pub followed-then : (taking : Taking) {acts : List Act} {came : List (List ℕ)} {answers : List Arrival} {done : List Act} {s : Numbers}
-    → Followed taking acts came answers done s → (words : List ℕ) → List·Memᴰ words (records acts)
-    → allFit (applyActs fresh done) (actsIn (next taking done s words)) ≡ true
-    → Followed taking acts (came ++ words ∷ []) (answers ++ answerIn (next taking done s words) ∷ []) (done ++ actsIn (next taking done s words))
-    (numbersIn (next taking done s words) s)
-followed-then taking {done = done} {s = s} F words member f =
-    let x = next taking done s words in
-    let e = next-is taking (F .stands) s words in
+-- what a record comes to
+abbrev next : Taking → Table → Numbers → Change → Result Taken
+next taking t s c = andThen (met t s) (λ t. andThen (wellFormed (readChange (changeWords c))) (λ c. taking t s c))
+
+pub followed-record : (taking : Taking) {Loading : Promise} {sent came : List Message} {answers : List Arrival} {t : Table} {s : Numbers}
+    → Followed (By taking) Loading sent came answers t s → (c : Change) → List·Memᴰ (changed c) sent → allFit t (actsIn (next taking t s c)) ≡ true
+    → Followed (By taking) Loading sent (came ++ changed c ∷ []) (answers ++ answerIn (next taking t s c) ∷ []) (applyActs t (actsIn (next taking t s c)))
+    (numbersIn (next taking t s c) s)
+followed-record taking {t = t} {s = s} F c member f =
+    let x = next taking t s c in
+    let e = met-is (F .stands) s in
     let m′ = doActs (F .memory) (actsIn x) in
-    let comes : By taking (F .memory) words s m′ (numbersIn x s) (answerIn x) = record { answer = rw e; memory = rw e; numbers = rw e } in
-    record { memory = m′; arrivals = thenArrival (F .arrivals) member comes refl refl; stands = stands-then (F .stands) (actsIn x) f }
+    let comes : By taking (F .memory) (changeWords c) s m′ (numbersIn x s) (answerIn x) = record { answer = rw e; memory = rw e; numbers = rw e } in
+    record { memory = m′; arrivals = thenRecord (F .arrivals) member comes refl refl; stands = stands-then (F .stands) (actsIn x) f }
+
+-- what an image comes to, and the table that it leaves
+abbrev pub nextImage : Choosing → Table → Numbers → Image → Result (Option Image)
+nextImage choosing t s i = andThen (met t s) (λ t. ok (choosing t s i))
+
+unfoldable pub tableAfter : Result (Option Image) → Table → Table
+tableAfter (refused cause) t = t
+tableAfter (ok none) t = t
+tableAfter (ok (some i)) t = i .table
+
+loading-is : (choosing : Choosing) {m : List ℕ} {t : Table} → Stands m t → (s : Numbers) {i : Image} → Writable i
+    → loadingBy choosing m (imageWords i) s ≡ nextImage choosing t s i
+unfolding isImage andThen
+loading-is choosing S s W = rw (met-is S s, image-read W)
+
+pub brings : (choosing : Choosing) {m : List ℕ} {t : Table} → Stands m t → (s : Numbers) {i : Image} → Writable i
+    → LoadBy choosing m (imageWords i) s (memoryOf (nextImage choosing t s i) m) (numbersOf (nextImage choosing t s i) s) (answerOf (nextImage choosing t s i))
+brings choosing S s W = let e = loading-is choosing S s W in record { answer = rw e; memory = rw e; numbers = rw e }
+
+stands-loaded : {m : List ℕ} {t : Table} → Stands m t → (x : Result (Option Image)) → isTable (tableAfter x t) ≡ true → Stands (memoryOf x m) (tableAfter x t)
+unfolding tableAfter memoryOf
+stands-loaded S (refused cause) v = S
+stands-loaded S (ok none) v = S
+stands-loaded {m} S (ok (some i)) v = let L = left-put m _ (i .table) v (long-of m (S .holding)) refl in record { holding = L .holding; table = L .table }
+
+-- by any promise that leaves the memory of x
+pub followed-load : {Arriving Loading : Promise} {sent came : List Message} {answers : List Arrival} {t : Table} {s : Numbers}
+    (F : Followed Arriving Loading sent came answers t s) (i : Image) → List·Memᴰ (image i) sent → (x : Result (Option Image)) {s′ : Numbers} {r : Arrival}
+    → isTable (tableAfter x t) ≡ true
+    → Loading (F .memory) (imageWords i) s (memoryOf x (F .memory)) s′ r
+    → Followed Arriving Loading sent (came ++ image i ∷ []) (answers ++ r ∷ []) (tableAfter x t) s′
+followed-load F i member x v P =
+    record { memory = memoryOf x (F .memory); arrivals = thenLoad (F .arrivals) member P refl refl; stands = stands-loaded (F .stands) x v }
+
+pub followed-image : (choosing : Choosing) {Arriving : Promise} {sent came : List Message} {answers : List Arrival} {t : Table} {s : Numbers}
+    → Followed Arriving (LoadBy choosing) sent came answers t s → (i : Image) → List·Memᴰ (image i) sent → Writable i
+    → isTable (tableAfter (nextImage choosing t s i) t) ≡ true
+    → Followed Arriving (LoadBy choosing) sent (came ++ image i ∷ []) (answers ++ answerOf (nextImage choosing t s i) ∷ [])
+    (tableAfter (nextImage choosing t s i) t) (numbersOf (nextImage choosing t s i) s)
+followed-image choosing {s = s} F i member W v = followed-load F i member _ v (brings choosing (F .stands) s W)
 
 -- ---- memory and spaces
 
@@ -275,6 +357,11 @@ pub length-space : (n : ℕ) → length (spaceOf n) ≡ n
 unfolding spaceOf
 length-space n = length-replicate n 0
 
+bytes-space : (n : ℕ) → Bytes (spaceOf n)
+unfolding spaceOf
+bytes-space zero = bytes-none
+bytes-space (suc n) = bytes-cons (omega arith) (bytes-space n)
+
 pub freshMemory : List ℕ
 freshMemory = put fresh (spaceOf tableBytes)
 
@@ -284,3 +371,7 @@ is-fresh = record {
   holding = holds-put fresh (spaceOf tableBytes) refl (omega (arith, length-space tableBytes));
   table = tableOf-put fresh (spaceOf tableBytes);
 }
+
+pub fresh-bytes : Bytes freshMemory
+unfolding freshMemory isTable pathBytes every marksOf present any
+fresh-bytes = put-bytes fresh (bytes-space tableBytes) refl no-entry

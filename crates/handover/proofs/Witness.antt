@@ -19,7 +19,7 @@ use Rattle.table.specs.declared.Kind.the-variants.{G, P}
 use Rattle.table.specs.declared.Outcome.the-variants as outcome
 use Rattle.table.specs.Entries.{kindOf, knownKind, samePath, strictlyExtends, compareAlike, grantedOrder, compare}
 use Rattle.table.specs.Placing.{isAfter, searchFrom, search, placeBy, place, placedAt}
-use Rattle.table.specs.Tables.{fresh, has, setBit, marked, any, pathBytes, isEntry}
+use Rattle.table.specs.Tables.{fresh, has, setBit, marked, any, pathBytes, isEntry, every, present, marksOf, isTable}
 use Rattle.table.specs.Acts.{
   insert,
   setSwitches,
@@ -136,10 +136,16 @@ use Rattle.records.specs.Records.{
   ended,
   readChange,
 }
+use Rattle.images.specs.Images.{entryWords, allEntryWords, imageWords, imageSize, Writable}
+use Rattle.link.specs.Imaging.{imageCall}
 use Rattle.link.proofs.SendingLaws.{a-room}
 use Rattle.standby.specs.Arriving.{wellFormed, higher, applied, passedBy, taken, arrival, answerIn, actsIn, numbersIn}
-use Rattle.handover.specs.Handover.{recordsOf, records}
-use Rattle.handover.specs.Witness.{creating, Steps, calls, kept, acts, recordOf, came, answers, Lent, Witness}
+use Rattle.standby.specs.Loading.{takenOf, loading, numbersOf}
+use Rattle.standby.specs.Loading as loading-calls
+use Rattle.handover.specs.Handover.{image, changesSent, imageSent, messageWords, allMessageWords}
+use Rattle.handover.specs.Witness.{creating, Steps, calls, kept, acts, change, third, sent, came, answers, Lent, Witness}
+use Rattle.handover.specs.Wrong.{By, LoadBy, takesAbove}
+use Rattle.handover.proofs.MainLaws.{main-is}
 use Rattle.handover.proofs.StepLaws.{
   insert-steps,
   switches-steps,
@@ -152,13 +158,17 @@ use Rattle.handover.proofs.StepLaws.{
   Run,
   run-fresh,
   run-then,
+  run-image,
   Followed,
   followed-fresh,
-  followed-then,
+  followed-record,
+  tableAfter,
+  followed-image,
   spaceOf,
   length-space,
   freshMemory,
   is-fresh,
+  fresh-bytes,
 }
 
 -- ---- what the calls are handed
@@ -176,13 +186,13 @@ letter h = bytes-cons (omega arith) (bytes-cons h bytes-none)
 
 -- ---- the run
 
--- after k acts and j calls
-abbrev At : ℕ → ℕ → Type 0
-At k j = Run (take k acts) (take j calls)
+-- after k acts, i messages and j calls
+abbrev At : ℕ → ℕ → ℕ → Type 0
+At k i j = Run (take k acts) (take i sent) (take j calls)
 
 -- after j arrivals, with the numbers n and h
 abbrev Came : ℕ → ℕ → ℕ → Type 0
-Came j n h = Followed taken acts (take j came) (take j answers) (take n acts) (record { n = n; h = h })
+Came j n h = Followed (By taken) (LoadBy takesAbove) sent (take j came) (take j answers) (applyActs fresh (take n acts)) (record { n = n; h = h })
 
 module _ (L : Lent) where
   abbrev w : List ℕ
@@ -215,10 +225,12 @@ module _ (L : Lent) where
       carriedOut ask-calls.answerIn ask-calls.actsIn settled textSpace revokeAct revokeDesc
       argOf knownArg knownResponses listItems itemsOf closeAt responsesDue itemsFit areInOrder argumentsOf
       onward grantedBy countOf passedOn checked itemBy itemStep allItems firstChild completed createChild creation refusalIn child-calls.actsIn
-      actNumber pathWords pathPart actPart changeWords numbered allWords recordsOf
+      actNumber pathWords pathPart actPart changeWords numbered allWords changesSent imageSent messageWords allMessageWords
       isLength isSwitches isPathWord withBytes bytesFrom ifResolved readPath withPath readSwitches readAct withNumber readFirst endedBy ended readChange
       insertCall switchesCall askCall revokeCall childCall
+      every present marksOf isTable entryWords allEntryWords imageWords imageSize imageCall
       wellFormed higher applied passedBy taken arrival answerIn actsIn numbersIn
+      takenOf loading loading-calls.answerOf numbersOf tableAfter
       allFit
   witness = record {
     main = whole .main;
@@ -229,31 +241,31 @@ module _ (L : Lent) where
     child = refused-child before-child;
     wrote = rw (before-child .number);
     among = refl;
-    standby = record { memory = followed .memory; numbers = record { n = 2; h = 4 } };
+    standby = record { memory = followed .memory; numbers = record { n = 4; h = 5 } };
     arrivals = followed .arrivals;
     n = refl;
     h = refl;
   }
     where
-      first-insert : At 0 0 → At 1 1
+      first-insert : At 0 0 0 → At 1 1 1
       first-insert R =
           run-then R
           (insert-steps _ w 0 (bytes "/a") root (letter (omega arith)) root-bytes (ok (insert (entry G "/a"))) (rw (R .number, table-in (R .stands), room)))
           refl
 
-      empty-insert : At 1 1 → At 1 2
+      empty-insert : At 1 1 1 → At 1 1 2
       empty-insert R = run-then R (insert-steps _ w 1 [] root bytes-none root-bytes (refused EmptyPath) (rw (table-in (R .stands), room))) refl
 
-      set-switches : At 1 2 → At 2 3
+      set-switches : At 1 1 2 → At 2 2 3
       set-switches R = run-then R (switches-steps _ w 16 (ok (setSwitches 16)) (rw (R .number, table-in (R .stands), room))) refl
 
-      short-check : At 2 3 → At 2 4
+      short-check : At 2 2 3 → At 2 2 4
       short-check R =
           run-then R
           (ask-steps _ w Check [] Path (bytes "/b") root 0 (letter (omega arith)) root-bytes (refused NoSpace) (rw (table-in (R .stands))))
           refl
 
-      denied-check : At 2 4 → At 3 5
+      denied-check : At 2 2 4 → At 3 3 5
       denied-check R =
           run-then R
           (ask-steps _ w Check (L .text) Path (bytes "/b") root 0 (letter (omega arith)) root-bytes
@@ -261,7 +273,13 @@ module _ (L : Lent) where
           (rw (R .number, table-in (R .stands), text, room)))
           refl
 
-      request-again : At 3 5 → At 4 6
+      short-image : At 3 3 5 → At 3 3 6
+      short-image R = run-image R (0 ∷ 0 ∷ 0 ∷ 0 ∷ 0 ∷ []) (refused NoSpace) (rw (table-in (R .stands)))
+
+      third-image : At 3 3 6 → At 3 4 7
+      third-image R = run-image R (0 ∷ 0 ∷ 0 ∷ 0 ∷ 0 ∷ 0 ∷ []) (ok third) (rw (R .number, table-in (R .stands)))
+
+      request-again : At 3 4 7 → At 4 5 8
       request-again R =
           run-then R
           (ask-steps _ w Request (L .text) Path (bytes "/a") root 0 (letter (omega arith)) root-bytes
@@ -269,7 +287,7 @@ module _ (L : Lent) where
           (rw (R .number, table-in (R .stands), text, room)))
           refl
 
-      revoke-first : At 4 6 → At 5 7
+      revoke-first : At 4 5 8 → At 5 6 9
       revoke-first R =
           run-then R
           (revoke-steps _ w Path (bytes "/a") root (letter (omega arith)) root-bytes
@@ -277,7 +295,7 @@ module _ (L : Lent) where
           (rw (R .number, table-in (R .stands), room)))
           refl
 
-      refused-child : (R : At 5 7) → Steps (R .main) kept (creating 3 (bytes "/c/d") (2 ∷ 4 ∷ []) (1 ∷ 0 ∷ []) (outcome.Refused Escalation))
+      refused-child : (R : At 5 6 9) → Steps (R .main) kept (creating 3 (bytes "/c/d") (2 ∷ 4 ∷ []) (1 ∷ 0 ∷ []) (outcome.Refused Escalation))
       refused-child R =
           child-steps _ w (L .child) 3 (bytes "/c/d") (2 ∷ 4 ∷ []) (1 ∷ 0 ∷ []) root
           (bytes-append (bytes "/c") (bytes "/d") (letter (omega arith)) (letter (omega arith)))
@@ -285,41 +303,59 @@ module _ (L : Lent) where
           (ok (record { first = fresh; made = record { acts = kept; grants = insert (entry G "/c") ∷ []; asked = 2; refused = some Escalation } }))
           (rw (R .number, table-in (R .stands), fresh-long (L .child) (L .childRoom), room₂))
 
-      last-query : At 7 8 → At 7 9
+      last-query : At 7 8 10 → At 7 8 11
       last-query R = run-then R (query-steps _ 1 Path (bytes "/c") root (answer.State Granted) (rw (table-in (R .stands)))) refl
 
-      before-child : At 5 7
-      before-child = revoke-first (request-again (denied-check (short-check (set-switches (empty-insert (first-insert (run-fresh (L .fresh))))))))
+      before-child : At 5 6 9
+      before-child =
+          revoke-first (request-again (third-image (short-image (
+          denied-check (short-check (set-switches (empty-insert (first-insert (run-fresh (L .fresh) (L .bytes))))))))))
 
-      whole : At 7 9
+      whole : At 7 8 11
       whole = last-query (run-then before-child (refused-child before-child) refl)
 
-      first : List·Memᴰ (recordOf 1) (records acts)
-      first = List·Memᴰ·head refl
+      one : List·Memᴰ (change 1) sent
+      one = List·Memᴰ·head refl
 
-      second : List·Memᴰ (recordOf 2) (records acts)
-      second = List·Memᴰ·tail (List·Memᴰ·head refl)
+      two : List·Memᴰ (change 2) sent
+      two = List·Memᴰ·tail (List·Memᴰ·head refl)
 
-      fourth : List·Memᴰ (recordOf 4) (records acts)
-      fourth = List·Memᴰ·tail (List·Memᴰ·tail (List·Memᴰ·tail (List·Memᴰ·head refl)))
+      three : List·Memᴰ (image third) sent
+      three = List·Memᴰ·tail (List·Memᴰ·tail (List·Memᴰ·tail (List·Memᴰ·head refl)))
+
+      four : List·Memᴰ (change 4) sent
+      four = List·Memᴰ·tail (List·Memᴰ·tail (List·Memᴰ·tail (List·Memᴰ·tail (List·Memᴰ·head refl))))
+
+      five : List·Memᴰ (change 5) sent
+      five = List·Memᴰ·tail (List·Memᴰ·tail (List·Memᴰ·tail (List·Memᴰ·tail (List·Memᴰ·tail (List·Memᴰ·head refl)))))
+
+      writable : Writable third
+      writable = main-is (whole .calls) .images third three .writable
 
       two-early : Came 0 0 0 → Came 1 0 2
-      two-early F = followed-then taken F (recordOf 2) second refl
+      two-early F = followed-record taken F _ two refl
 
       one-applied : Came 1 0 2 → Came 2 1 2
-      one-applied F = followed-then taken F (recordOf 1) first refl
+      one-applied F = followed-record taken F _ one refl
 
-      one-repeated : Came 2 1 2 → Came 3 1 2
-      one-repeated F = followed-then taken F (recordOf 1) first refl
+      image-taken : Came 2 1 2 → Came 3 3 3
+      image-taken F = followed-image takesAbove F third three writable refl
 
-      two-applied : Came 3 1 2 → Came 4 2 2
-      two-applied F = followed-then taken F (recordOf 2) second refl
+      two-repeated : Came 3 3 3 → Came 4 3 3
+      two-repeated F = followed-record taken F _ two refl
 
-      four-early : Came 4 2 2 → Came 5 2 4
-      four-early F = followed-then taken F (recordOf 4) fourth refl
+      image-repeated : Came 4 3 3 → Came 5 3 3
+      image-repeated F = followed-image takesAbove F third three writable refl
 
-      followed : Came 5 2 4
-      followed = four-early (two-applied (one-repeated (one-applied (two-early (followed-fresh (L .fresh))))))
+      five-early : Came 5 3 3 → Came 6 3 5
+      five-early F = followed-record taken F _ five refl
+
+      four-applied : Came 6 3 5 → Came 7 4 5
+      four-applied F = followed-record taken F _ four refl
+
+      followed : Came 7 4 5
+      followed =
+          four-applied (five-early (image-repeated (two-repeated (image-taken (one-applied (two-early (followed-fresh (L .fresh))))))))
 
 lent : Lent
 lent = record {
@@ -328,6 +364,7 @@ lent = record {
   words = spaceOf (recordSpace * 2);
   child = spaceOf tableBytes;
   fresh = is-fresh;
+  bytes = fresh-bytes;
   textRoom = omega (arith, length-space textBytes);
   wordRoom = omega (arith, length-space (recordSpace * 2));
   childRoom = omega (arith, length-space tableBytes);

@@ -1,5 +1,5 @@
--- Each wrong arrival of `specs/Wrong.antt` breaks the claim on a main that sets switches twice.
-use Prim.Native.Nat.{ℕ}
+-- Each wrong arrival of `specs/Wrong.antt` breaks the claim on a main that sets switches twice and writes an image after each.
+use Prim.Native.Nat.{ℕ, _≤_}
 use mathlib.Core.Path.{_≡_, refl, sym, ap, _∙_}
 use mathlib.Core.List.{List, [], _∷_, List·Memᴰ, List·Memᴰ·head, List·Memᴰ·tail, Sublistᴰ·cons-cons, Sublistᴰ·slnil}
 use native.Mathlib.Omega.{arith}
@@ -7,7 +7,7 @@ use lib.ListN.{take}
 use Rattle.refusals.specs.declared.Refusal.the-variants.{NoTable}
 use Rattle.refusals.specs.Refusals.{firstCause, ok, andThen, unless, causeOf}
 use Rattle.table.specs.declared.Outcome.the-variants.{Done}
-use Rattle.table.specs.Tables.{Table, fresh}
+use Rattle.table.specs.Tables.{Table, fresh, pathBytes, every, any, present, marksOf, isTable}
 use Rattle.table.specs.Acts.{Act, setSwitches, applyAct, actOverflows, isAct, applyActs}
 use Rattle.table.specs.declared.Numbering.the-variants as numbering
 use Rattle.table.specs.Carrying.{linked, usedUp, carryCause, outcomeOf}
@@ -18,7 +18,6 @@ use Rattle.records.specs.Records.{
   actPart,
   changeWords,
   numbered,
-  allWords,
   isSwitches,
   readSwitches,
   readAct,
@@ -28,13 +27,49 @@ use Rattle.records.specs.Records.{
   ended,
   readChange,
 }
+use Rattle.images.specs.Images.{Image, allEntryWords, imageSize, Writable}
+use Rattle.link.specs.Imaging.{imageCall}
 use Rattle.link.proofs.SendingLaws.{a-room}
+use Rattle.standby.specs.declared.Numbers.{Numbers}
 use Rattle.standby.specs.declared.Arrival.{Arrival}
-use Rattle.standby.specs.declared.Arrival.the-variants.{Applied, Repeat, Early, Refused}
-use Rattle.standby.specs.Arriving.{wellFormed, higher, applied, passedBy, taken, arrival, answerIn, actsIn, numbersIn}
-use Rattle.handover.specs.Handover.{recordsOf, records, Standby, Handover, Claim, Demand3}
-use Rattle.handover.specs.Witness.{switching}
-use Rattle.handover.specs.Wrong.{Taking, By, countsRest, inventsN, earlyToNext, repeatRaises, keepsH, RuledOut}
+use Rattle.standby.specs.declared.Arrival.the-variants.{Applied, Repeat, Early, Taken, Refused}
+use Rattle.standby.specs.Arriving.{wellFormed, higher, applied, passedBy, taken, arrival, answerIn, actsIn, numbersIn, Arrives}
+use Rattle.standby.specs.Loading.{takenOf, loading, answerOf, numbersOf, Loads}
+use Rattle.handover.specs.Handover.{
+  Message,
+  changed,
+  image,
+  changesSent,
+  imageSent,
+  allMessageWords,
+  Promise,
+  Standby,
+  reach,
+  judgedBy,
+  judgedFrom,
+  Handover,
+  Claim,
+  Demand3,
+}
+use Rattle.handover.specs.Witness.{Line, switching, imaging}
+use Rattle.handover.specs.Wrong.{
+  By,
+  countsRest,
+  inventsN,
+  earlyToNext,
+  repeatRaises,
+  keepsH,
+  doesAgain,
+  LoadBy,
+  takesAbove,
+  takesAny,
+  takesNone,
+  keepsTable,
+  keepsN,
+  LoadsKeepingH,
+  RuledOut,
+}
+use Rattle.handover.proofs.MainLaws.{main-is}
 use Rattle.handover.proofs.StepLaws.{
   switches-steps,
   allFit,
@@ -42,23 +77,43 @@ use Rattle.handover.proofs.StepLaws.{
   Run,
   run-fresh,
   run-then,
+  run-image,
   Followed,
   followed-fresh,
-  followed-then,
+  followed-record,
+  tableAfter,
+  nextImage,
+  brings,
+  followed-load,
+  followed-image,
   spaceOf,
   length-space,
   is-fresh,
+  fresh-bytes,
 }
 
--- the same made with `taken` is demand 3
-pub right : Claim (By taken) ≡ Demand3
-unfolding arrival
+-- the same made with `taken` and `takesAbove` is demand 3
+pub right : Claim (By taken) (LoadBy takesAbove) ≡ Demand3
+unfolding arrival loading
 right = refl
 
--- ---- a main that sets switches twice
+-- ---- the main
 
 abbrev twice : List Act
 twice = setSwitches 1 ∷ setSwitches 2 ∷ []
+
+-- change k, and the image after it: both have the number k, and set or have the switches k
+abbrev change : ℕ → Message
+change k = changed (record { number = k; act = setSwitches k })
+
+abbrev imaged : ℕ → Image
+imaged k = record { number = k; table = record { entries = []; switches = k; marks = 0 } }
+
+abbrev sent : List Message
+sent = change 1 ∷ image (imaged 1) ∷ change 2 ∷ image (imaged 2) ∷ []
+
+abbrev lines : List Line
+lines = switching 1 Done ∷ imaging 2 Done 2 ∷ switching 2 Done ∷ imaging 2 Done 2 ∷ []
 
 w : List ℕ
 w = spaceOf recordSpace
@@ -67,77 +122,132 @@ room : (n : ℕ) → recordRoom 1 (linked n w) ≡ ok (numbering.After n)
 unfolding w
 room n = a-room n (spaceOf recordSpace) (omega (arith, length-space recordSpace))
 
-run : Run twice (switching 1 Done ∷ switching 2 Done ∷ [])
-unfolding firstCause andThen unless causeOf knownSwitches carried carryCause actOverflows usedUp outcomeOf table-calls.actsIn switchesCall allFit isAct
-run = second (first (run-fresh is-fresh))
+-- after k acts and j calls
+abbrev At : ℕ → ℕ → Type 0
+At k j = Run (take k twice) (take j sent) (take j lines)
+
+run : At 2 4
+unfolding firstCause andThen unless causeOf applyAct applyActs knownSwitches carried carryCause actOverflows usedUp outcomeOf table-calls.actsIn switchesCall allFit isAct
+    numbered changesSent imageSent allEntryWords imageSize imageCall
+run = second-image (second (first-image (first (run-fresh is-fresh fresh-bytes))))
   where
-    first : Run [] [] → Run (setSwitches 1 ∷ []) (switching 1 Done ∷ [])
+    first : At 0 0 → At 1 1
     first R = run-then R (switches-steps _ w 1 (ok (setSwitches 1)) (rw (R .number, table-in (R .stands), room))) refl
 
-    second : Run (setSwitches 1 ∷ []) (switching 1 Done ∷ []) → Run twice (switching 1 Done ∷ switching 2 Done ∷ [])
+    first-image : At 1 1 → At 1 2
+    first-image R = run-image R (0 ∷ 0 ∷ []) (ok (imaged 1)) (rw (R .number, table-in (R .stands)))
+
+    second : At 1 2 → At 2 3
     second R = run-then R (switches-steps _ w 2 (ok (setSwitches 2)) (rw (R .number, table-in (R .stands), room))) refl
 
--- its records
-abbrev one : List ℕ
-one = changeWords (record { number = 1; act = setSwitches 1 })
+    second-image : At 2 3 → At 2 4
+    second-image R = run-image R (0 ∷ 0 ∷ []) (ok (imaged 2)) (rw (R .number, table-in (R .stands)))
 
-abbrev two : List ℕ
-two = changeWords (record { number = 2; act = setSwitches 2 })
+-- ---- what it sent
+
+change-one : List·Memᴰ (change 1) sent
+change-one = List·Memᴰ·head refl
+
+image-one : List·Memᴰ (image (imaged 1)) sent
+image-one = List·Memᴰ·tail (List·Memᴰ·head refl)
+
+change-two : List·Memᴰ (change 2) sent
+change-two = List·Memᴰ·tail (List·Memᴰ·tail (List·Memᴰ·head refl))
+
+image-two : List·Memᴰ (image (imaged 2)) sent
+image-two = List·Memᴰ·tail (List·Memᴰ·tail (List·Memᴰ·tail (List·Memᴰ·head refl)))
+
+writable : (i : Image) → List·Memᴰ (image i) sent → Writable i
+writable i m = main-is (run .calls) .images i m .writable
 
 -- ---- what the claim says of a wrong standby
 
--- its arrivals, answers, acts, n and h
-abbrev After : Taking → List (List ℕ) → List Arrival → List Act → ℕ → ℕ → Type 0
-After taking came answers done n h = Followed taking twice came answers done (record { n = n; h = h })
+-- its arrivals, answers, switches, n and h
+abbrev After : Promise → Promise → List Message → List Arrival → ℕ → ℕ → ℕ → Type 0
+After Arriving Loading came answers switches n h =
+    Followed Arriving Loading sent came answers (record { entries = []; switches = switches; marks = 0 }) (record { n = n; h = h })
 
-module _ (taking : Taking) (claim : Claim (By taking)) {came : List (List ℕ)} {answers : List Arrival} {done : List Act} {n h : ℕ}
-    (F : After taking came answers done n h) where
+module _ {Arriving Loading : Promise} (claim : Claim Arriving Loading) {came : List Message} {answers : List Arrival} {switches n h : ℕ}
+    (F : After Arriving Loading came answers switches n h) where
   abbrev standby : Standby
   standby = record { memory = F .memory; numbers = record { n = n; h = h } }
 
-  told : Handover (run .main) twice (allWords (numbered 0 twice)) standby came answers
-  told = claim (run .main) twice (allWords (numbered 0 twice)) standby came answers (run .calls) (F .arrivals)
+  told : Handover (run .main) twice sent (allMessageWords sent) standby came answers
+  told = claim (run .main) twice sent (allMessageWords sent) standby came answers (run .calls) (F .arrivals)
 
-  switches-told : applyActs fresh done .switches ≡ applyActs fresh (take n twice) .switches
+  switches-told : switches ≡ applyActs fresh (take n twice) .switches
   switches-told = ap (λ (t : Table). t .switches) (sym (F .stands .table) ∙ told .table)
 
 pub ruled-out : RuledOut
 unfolding firstCause andThen unless applyAct actOverflows isAct applyActs carryCause usedUp carried
-    actNumber actPart changeWords numbered recordsOf isSwitches readSwitches readAct withNumber readFirst endedBy ended readChange
-    wellFormed higher applied passedBy taken answerIn actsIn numbersIn
-    countsRest inventsN earlyToNext repeatRaises keepsH allFit
+    actNumber actPart changeWords numbered isSwitches readSwitches readAct withNumber readFirst endedBy ended readChange
+    wellFormed higher applied passedBy taken arrival answerIn actsIn numbersIn
+    takenOf loading answerOf numbersOf tableAfter every pathBytes present any marksOf isTable
+    reach judgedBy judgedFrom
+    countsRest inventsN earlyToNext repeatRaises keepsH doesAgain takesAny takesNone keepsTable keepsN allFit
 ruled-out = record {
-  counts-rest = λ claim. let z : _≡_ {A = ℕ} 1 2 = switches-told countsRest claim counted in omega arith;
-  invents-n = λ claim. let z : _≡_ {A = ℕ} 0 2 = switches-told inventsN claim invented in omega arith;
+  counts-rest = λ claim. let z : _≡_ {A = ℕ} 1 2 = switches-told claim counted in omega arith;
+  invents-n = λ claim. let z : _≡_ {A = ℕ} 0 2 = switches-told claim invented in omega arith;
   early-to-next = λ claim.
-      let z = told earlyToNext claim delayed .greatest 1 (record { made = omega arith; arrived = Sublistᴰ·cons-cons refl Sublistᴰ·slnil }) in
+      let z = told claim delayed .greatest 1 (record { from = omega arith; made = omega arith; arrived = Sublistᴰ·cons-cons refl Sublistᴰ·slnil }) in
       omega arith;
-  repeat-raises = λ claim. let z : _≡_ {A = ℕ} 1 2 = switches-told repeatRaises claim raised in omega arith;
-  keeps-h = λ claim. told keepsH claim stopped .unrefused NoTable (List·Memᴰ·tail (List·Memᴰ·head refl));
+  repeat-raises = λ claim. let z : _≡_ {A = ℕ} 1 2 = switches-told claim raised in omega arith;
+  keeps-h = λ claim. told claim stopped .unrefused NoTable (List·Memᴰ·tail (List·Memᴰ·head refl));
+  does-again = λ claim. let z : _≡_ {A = ℕ} 1 2 = switches-told claim redone in omega arith;
+  takes-any = λ claim. let z : 2 ≤ 1 = told claim fallen .reached .from in omega arith;
+  takes-none = λ claim. let z : 1 ≤ 0 = told claim ignored .reached .from in omega arith;
+  keeps-table = λ claim. let z : _≡_ {A = ℕ} 0 1 = switches-told claim old in omega arith;
+  keeps-n = λ claim. let z : 1 ≤ 0 = told claim uncounted .reached .from in omega arith;
+  loads-keeping-h = λ claim. told claim stuck .unrefused NoTable (List·Memᴰ·tail (List·Memᴰ·head refl));
 }
   where
-    first : List·Memᴰ one (records twice)
-    first = List·Memᴰ·head refl
-
-    second : List·Memᴰ two (records twice)
-    second = List·Memᴰ·tail (List·Memᴰ·head refl)
-
     -- n is 2, and change 2 is not done
-    counted : After countsRest (one ∷ two ∷ []) (Applied ∷ Applied ∷ []) (setSwitches 1 ∷ []) 2 2
-    counted = followed-then countsRest (followed-then countsRest (followed-fresh is-fresh) one first refl) two second refl
+    counted : After (By countsRest) Loads (change 1 ∷ change 2 ∷ []) (Applied ∷ Applied ∷ []) 1 2 2
+    counted = followed-record countsRest (followed-record countsRest (followed-fresh is-fresh) _ change-one refl) _ change-two refl
 
     -- n is 2, and nothing is done
-    invented : After inventsN (two ∷ []) (Early ∷ []) [] 2 2
-    invented = followed-then inventsN (followed-fresh is-fresh) two second refl
+    invented : After (By inventsN) Loads (change 2 ∷ []) (Early ∷ []) 0 2 2
+    invented = followed-record inventsN (followed-fresh is-fresh) _ change-two refl
 
     -- change 1 arrived, and n is 0
-    delayed : After earlyToNext (one ∷ []) (Early ∷ []) [] 0 1
-    delayed = followed-then earlyToNext (followed-fresh is-fresh) one first refl
+    delayed : After (By earlyToNext) Loads (change 1 ∷ []) (Early ∷ []) 0 0 1
+    delayed = followed-record earlyToNext (followed-fresh is-fresh) _ change-one refl
 
     -- n is 2, and change 1 is done
-    raised : After repeatRaises (one ∷ one ∷ []) (Applied ∷ Repeat ∷ []) (setSwitches 1 ∷ []) 2 1
-    raised = followed-then repeatRaises (followed-then repeatRaises (followed-fresh is-fresh) one first refl) one first refl
+    raised : After (By repeatRaises) Loads (change 1 ∷ change 1 ∷ []) (Applied ∷ Repeat ∷ []) 1 2 1
+    raised = followed-record repeatRaises (followed-record repeatRaises (followed-fresh is-fresh) _ change-one refl) _ change-one refl
 
     -- n is above h
-    stopped : After keepsH (one ∷ one ∷ []) (Applied ∷ Refused NoTable ∷ []) (setSwitches 1 ∷ []) 1 0
-    stopped = followed-then keepsH (followed-then keepsH (followed-fresh is-fresh) one first refl) one first refl
+    stopped : After (By keepsH) Loads (change 1 ∷ change 1 ∷ []) (Applied ∷ Refused NoTable ∷ []) 1 1 0
+    stopped = followed-record keepsH (followed-record keepsH (followed-fresh is-fresh) _ change-one refl) _ change-one refl
+
+    -- n is 2, and change 1 is done last
+    redone : After (By doesAgain) Loads (image (imaged 2) ∷ change 1 ∷ []) (Taken ∷ Applied ∷ []) 1 2 2
+    redone = followed-record doesAgain (followed-image takesAbove (followed-fresh is-fresh) _ image-two (writable _ image-two) refl) _ change-one refl
+
+    -- the image after change 2 arrived, and n is 1
+    fallen : After Arrives (LoadBy takesAny) (image (imaged 2) ∷ image (imaged 1) ∷ []) (Taken ∷ Taken ∷ []) 1 1 2
+    fallen =
+        followed-image takesAny (followed-image takesAny (followed-fresh is-fresh) _ image-two (writable _ image-two) refl) _ image-one (writable _ image-one) refl
+
+    -- the image after change 1 arrived, and n is 0
+    ignored : After Arrives (LoadBy takesNone) (image (imaged 1) ∷ []) (Repeat ∷ []) 0 0 0
+    ignored = followed-image takesNone (followed-fresh is-fresh) _ image-one (writable _ image-one) refl
+
+    -- n is 1, and change 1 is not done
+    old : After Arrives (LoadBy keepsTable) (image (imaged 1) ∷ []) (Taken ∷ []) 0 1 1
+    old = followed-image keepsTable (followed-fresh is-fresh) _ image-one (writable _ image-one) refl
+
+    -- the image after change 1 arrived, and n is 0
+    uncounted : After Arrives (LoadBy keepsN) (image (imaged 1) ∷ []) (Taken ∷ []) 1 0 0
+    uncounted = followed-image keepsN (followed-fresh is-fresh) _ image-one (writable _ image-one) refl
+
+    unraised : After Arrives LoadsKeepingH [] [] 0 0 0 → After Arrives LoadsKeepingH (image (imaged 1) ∷ []) (Taken ∷ []) 1 1 0
+    unraised F =
+        let none : Numbers = record { n = 0; h = 0 } in
+        followed-load F (imaged 1) image-one (nextImage takesAbove fresh none (imaged 1)) refl
+        (record { n = 1; h = 1 }, brings takesAbove (F .stands) none (writable (imaged 1) image-one), refl)
+
+    -- n is above h
+    stuck : After Arrives LoadsKeepingH (image (imaged 1) ∷ change 1 ∷ []) (Taken ∷ Refused NoTable ∷ []) 1 1 0
+    stuck = followed-record taken (unraised (followed-fresh is-fresh)) _ change-one refl

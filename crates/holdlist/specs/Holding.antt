@@ -11,7 +11,7 @@ use Rattle.table.specs.Memory.{doActs}
 use Rattle.records.specs.Records.{Change, Read, changeWords, readFirst}
 use Rattle.standby.specs.declared.Numbers.{Numbers}
 use Rattle.standby.specs.declared.Arrival.{Arrival}
-use Rattle.standby.specs.declared.Arrival.the-variants.{Applied, Repeat, Early, Refused}
+use Rattle.standby.specs.declared.Arrival.the-variants.{Applied, Repeat, Early, Taken as TakenImage, Refused}
 use Rattle.standby.specs.Arriving.{Taken, arrival}
 use Rattle.holdlist.specs.declared.Held.{Held}
 
@@ -98,6 +98,7 @@ abbrev pub isRefused : Arrival → Bool
 isRefused Applied = false
 isRefused Repeat = false
 isRefused Early = false
+isRefused TakenImage = false
 isRefused (Refused cause) = true
 
 -- what was held, once k words arrived with this answer and left these numbers

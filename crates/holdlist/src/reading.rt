@@ -68,6 +68,7 @@ fn is_refused(answer: Arrival) -> bool
         Arrival::Applied => false,
         Arrival::Repeat => false,
         Arrival::Early => false,
+        Arrival::Taken => false,
         Arrival::Refused(_) => true,
     }
 }

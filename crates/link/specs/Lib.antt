@@ -1,3 +1,4 @@
 pub mod Sending
 pub mod Linked
+pub mod Imaging
 pub mod Steps

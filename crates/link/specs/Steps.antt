@@ -23,6 +23,7 @@ use Rattle.child.specs.Making.{Made, itemStep, allItems}
 use Rattle.child.specs.Steps.{madeDone, madeRefused, Makes}
 use Rattle.records.specs.Records.{numbered, allWords}
 use Rattle.link.specs.declared.Sent.{Sent}
+use Rattle.link.specs.declared.ImageSent.{ImageSent}
 use Rattle.link.specs.declared.AskSent.{AskSent}
 use Rattle.link.specs.declared.RevokeSent.{RevokeSent}
 use Rattle.link.specs.declared.ChildSent.{ChildSent}
@@ -52,6 +53,9 @@ pub record SendsAt (act : Option Act) (n : ℕ) (w : List ℕ) (at n′ : ℕ) (
 
 abbrev pub refusedSent : Refusal → Sent
 refusedSent cause = record { outcome = outcome.Refused cause; words = 0 }
+
+abbrev pub refusedImage : Refusal → ℕ → ImageSent
+refusedImage cause words = record { outcome = outcome.Refused cause; words = words }
 
 abbrev pub refusedRevoke : Refusal → RevokeSent
 refusedRevoke cause = record { answer = answer.Refused cause; words = 0 }

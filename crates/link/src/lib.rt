@@ -7,6 +7,7 @@ use walk::Answer;
 pub mod asking;
 pub mod creating;
 pub mod granting;
+pub mod imaging;
 pub mod inserting;
 pub mod revoking;
 pub mod sending;
@@ -14,6 +15,12 @@ pub mod switching;
 
 // What a linked insert or setting of switches answers, and how many words of the record space hold its record.
 pub struct Sent {
+    pub outcome: Outcome,
+    pub words: usize,
+}
+
+// What the image call answers, and how many words the image takes: they stand in the lent space, or the call is refused.
+pub struct ImageSent {
     pub outcome: Outcome,
     pub words: usize,
 }

@@ -27,10 +27,14 @@ use Rattle.link.specs.declared.Sent.{Sent}
 use Rattle.link.specs.declared.AskSent.{AskSent}
 use Rattle.link.specs.declared.RevokeSent.{RevokeSent}
 use Rattle.link.specs.declared.ChildSent.{ChildSent}
+use Rattle.link.specs.declared.ImageSent.{ImageSent}
 use Rattle.link.specs.Linked.{LinkedInserts, LinkedSwitches, LinkedAsks, LinkedRevokes, LinkedChild}
+use Rattle.link.specs.Imaging.{WritesImage}
 use Rattle.standby.specs.declared.Arrival.{Arrival}
 use Rattle.standby.specs.declared.Owed.{Owed}
+use Rattle.standby.specs.declared.Numbers.{Numbers}
 use Rattle.standby.specs.Arriving.{Arrives}
+use Rattle.standby.specs.Loading.{Loads}
 use Rattle.standby.specs.Owing.{Owes}
 use Rattle.permissions.specs.Numbers.{
   refusedNumber,
@@ -195,12 +199,25 @@ pub record ExportedLinkedChild (m : List ℕ) (n : ℕ) (c w : List ℕ) (code :
   pub asked : told ≡ answered .made .asked
   pub words : k ≡ answered .words
 
+-- the image: memory and number stay, and k words are what it takes
+pub record ExportedImage (m : List ℕ) (n : ℕ) (w w′ : List ℕ) (k : ℕ) (r : ℤ) : Type 0 where
+  pub answered : ImageSent
+  pub promise : WritesImage m n w w′ answered
+  pub number : r ≡ outcomeNumber (answered .outcome)
+  pub words : k ≡ answered .words
+
 -- ---- the standby: n and h are its two numbers, n′ and h′ the same after the arrival
 
-pub record ExportedArrive (m words : List ℕ) (n h : ℕ) (m′ : List ℕ) (n′ h′ : ℕ) (r : ℤ) : Type 0 where
+pub record ExportedArrival (Promise : Numbers → Arrival → Type 0) (n′ h′ : ℕ) (r : ℤ) : Type 0 where
   pub answered : Arrival
-  pub promise : Arrives m words (record { n = n; h = h }) m′ (record { n = n′; h = h′ }) answered
+  pub promise : Promise (record { n = n′; h = h′ }) answered
   pub number : r ≡ arrivalNumber answered
+
+abbrev pub ExportedArrive : List ℕ → List ℕ → ℕ → ℕ → List ℕ → ℕ → ℕ → ℤ → Type 0
+ExportedArrive m words n h m′ n′ h′ r = ExportedArrival (Arrives m words (record { n = n; h = h }) m′) n′ h′ r
+
+abbrev pub ExportedArriveImage : List ℕ → List ℕ → ℕ → ℕ → List ℕ → ℕ → ℕ → ℤ → Type 0
+ExportedArriveImage m words n h m′ n′ h′ r = ExportedArrival (Loads m words (record { n = n; h = h }) m′) n′ h′ r
 
 -- how much is owed
 pub record ExportedOwed (n h k : ℕ) (r : ℤ) : Type 0 where

@@ -76,6 +76,7 @@ abbrev pub arrivalNumber : Arrival → ℤ
 arrivalNumber arrival.Applied = pos 0
 arrivalNumber arrival.Repeat = pos 1
 arrivalNumber arrival.Early = pos 2
+arrivalNumber arrival.Taken = pos 3
 arrivalNumber (arrival.Refused cause) = refusedNumber cause
 
 -- a report of what is owed: 0, or a refusal; and how much

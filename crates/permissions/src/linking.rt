@@ -1,11 +1,12 @@
 // The main's half of the link, for C: each call that changes a table, with the main's number and the record space lent beside it. How many words hold
-// records goes to `count`, which every call writes.
+// records goes to `count`, which every call writes. And the main's whole table as one image.
 use crate::answer_number;
 use crate::asked_number;
 use crate::outcome_number;
 use calls::Call;
 use link::asking;
 use link::creating;
+use link::imaging;
 use link::inserting;
 use link::revoking;
 use link::switching;
@@ -19,6 +20,7 @@ ghost use Rattle.permissions.specs.Exports.{
   ExportedLinkedAsk,
   ExportedLinkedRevoke,
   ExportedLinkedChild,
+  ExportedImage,
 };
 
 // ---- insert and switches
@@ -280,5 +282,23 @@ pub extern "C" fn permissions_linked_child(
     *told = made.asked as u32;
     *count = sent.words;
     let outcome = made.outcome;
+    outcome_number(outcome)
+}
+
+// ---- an image
+
+// Writes the image of the table, with the main's number. How many words it takes goes to `count`, also where there is no room for them.
+#[no_mangle]
+pub extern "C" fn permissions_linked_image(
+    mem: &[u8],
+    number: u64,
+    words: &mut [u32],
+    count: &mut usize,
+) -> i32
+    ensures { λ r. ⌜ ExportedImage (now (mem .entry)) number (now (words .entry)) (now (words .exit)) (now (count .exit)) r ⌝ }
+{
+    let sent = imaging::write_image(mem, number, words);
+    *count = sent.words;
+    let outcome = sent.outcome;
     outcome_number(outcome)
 }

@@ -138,7 +138,50 @@ work-spells m ws at n c e h =
     (take-append-le n (wordBytes (take (wordsFor n) (drop at ws))) _
     (omega (arith, bytes-count (take (wordsFor n) (drop at ws)), length-take-le (wordsFor n) (drop at ws) h)))
 
--- a path of n bytes, as the second word says, whose words begin at a place
+-- a path of n bytes whose words begin at a place
+module _ (ws : List ℕ) (at n : ℕ) where
+  pub path-cut : {space : List ℕ} → length ws - at < wordsFor n → ReadsPath at (ifResolved (bytesFrom n (drop at ws))) space path-answer.Malformed space
+  unfolding ifResolved
+  path-cut h = reads-no-path (ap ifResolved (bytes-short n (drop at ws) (omega (arith, length-drop at ws)))) refl
+
+  module _ {p : List ℕ} (s : p ≡ spelled n (drop at ws)) (h : wordsFor n ≤ length (drop at ws)) where
+    pub size-is : length p ≡ n
+    size-is = ap length s ∙ spelled-length n (drop at ws) h
+
+    compared : same (take (wordsFor (length p)) (drop at ws)) (pathWords p) ≡ same (take (wordsFor n) (drop at ws)) (pathWords (spelled n (drop at ws)))
+    compared =
+        ap (λ (k : ℕ). same (take (wordsFor k) (drop at ws)) (pathWords p)) size-is
+        ∙ ap (λ (l : List ℕ). same (take (wordsFor n) (drop at ws)) (pathWords l)) s
+
+    ifPath : Bool → List ℕ → Option (Read (List ℕ))
+    ifPath b l = cond b (some (record { value = l; rest = drop (wordsFor n) (drop at ws) })) none
+
+    path-if : (b : Bool) → same (take (wordsFor (length p)) (drop at ws)) (pathWords p) ≡ b
+        → ifResolved (bytesFrom n (drop at ws)) ≡ ifPath (b && isResolved p) p
+    unfolding ifResolved ifPath
+    path-if true f =
+        ap ifResolved (bytes-spelled n (drop at ws) h (sym compared ∙ f))
+        ∙ ap (λ (l : List ℕ). ifPath (isResolved l) l) (sym s)
+    path-if false f = ap ifResolved (bytes-other n (drop at ws) (sym compared ∙ f))
+
+    path-by : ifResolved (bytesFrom n (drop at ws)) ≡ ifPath (isPathAt ws at p) p
+    unfolding isPathAt
+    path-by = path-if (same (take (wordsFor (length p)) (drop at ws)) (pathWords p)) refl
+
+    pub path-refused : {space after : List ℕ} {r : Bool} → HandsOver ws at p space r after → r ≡ false
+        → ReadsPath at (ifResolved (bytesFrom n (drop at ws))) space path-answer.Malformed after
+    unfolding ifPath
+    path-refused H f = reads-no-path (path-by ∙ rw (sym (H .answer) ∙ f)) (H .bytes ∙ rw f)
+
+    pub path-taken : {space after : List ℕ} {r : Bool} {count : ℕ} → HandsOver ws at p space r after → r ≡ true → count ≡ wordsFor n
+        → ReadsPath at (ifResolved (bytesFrom n (drop at ws))) space (path-answer.Path n (at + count)) after
+    unfolding ifPath pathAnswer pathInto
+    path-taken H t c = record {
+      answer = rw (path-by, sym (H .answer) ∙ t, path-count p, size-is, c);
+      bytes = H .bytes ∙ rw (path-by, sym (H .answer) ∙ t, t);
+    }
+
+-- a path whose length is what the second word says
 module _ (ws : List ℕ) (at n : ℕ) (second : Word) (e : n ≡ lengthOf second) where
   pub path-without-length : {space : List ℕ} → n ≡ 0 → ReadsPath at (pathBehind second (drop at ws)) space path-answer.Malformed space
   path-without-length z = reads-no-path (unsized second (drop at ws) (sym e ∙ z)) refl
@@ -150,50 +193,12 @@ module _ (ws : List ℕ) (at n : ℕ) (second : Word) (e : n ≡ lengthOf second
     pub path-short : n ≤ maxPath
     path-short = let S = size in omega arith
 
-    path-is : pathBehind second (drop at ws) ≡ ifResolved (bytesFrom n (drop at ws))
-    path-is = size .path ∙ ap (λ (k : ℕ). ifResolved (bytesFrom k (drop at ws))) (sym e)
+    path-is : ifResolved (bytesFrom n (drop at ws)) ≡ pathBehind second (drop at ws)
+    path-is = sym (size .path ∙ ap (λ (k : ℕ). ifResolved (bytesFrom k (drop at ws))) (sym e))
 
-    pub path-cut : {space : List ℕ} → length ws - at < wordsFor n → ReadsPath at (pathBehind second (drop at ws)) space path-answer.Malformed space
-    unfolding ifResolved
-    path-cut h = reads-no-path (path-is ∙ ap ifResolved (bytes-short n (drop at ws) (omega (arith, length-drop at ws)))) refl
-
-    module _ {p : List ℕ} (s : p ≡ spelled n (drop at ws)) (h : wordsFor n ≤ length (drop at ws)) where
-      pub size-is : length p ≡ n
-      size-is = ap length s ∙ spelled-length n (drop at ws) h
-
-      compared : same (take (wordsFor (length p)) (drop at ws)) (pathWords p) ≡ same (take (wordsFor n) (drop at ws)) (pathWords (spelled n (drop at ws)))
-      compared =
-          ap (λ (k : ℕ). same (take (wordsFor k) (drop at ws)) (pathWords p)) size-is
-          ∙ ap (λ (l : List ℕ). same (take (wordsFor n) (drop at ws)) (pathWords l)) s
-
-      ifPath : Bool → List ℕ → Option (Read (List ℕ))
-      ifPath b l = cond b (some (record { value = l; rest = drop (wordsFor n) (drop at ws) })) none
-
-      path-if : (b : Bool) → same (take (wordsFor (length p)) (drop at ws)) (pathWords p) ≡ b
-          → pathBehind second (drop at ws) ≡ ifPath (b && isResolved p) p
-      unfolding ifResolved ifPath
-      path-if true f =
-          path-is
-          ∙ ap ifResolved (bytes-spelled n (drop at ws) h (sym compared ∙ f))
-          ∙ ap (λ (l : List ℕ). ifPath (isResolved l) l) (sym s)
-      path-if false f = path-is ∙ ap ifResolved (bytes-other n (drop at ws) (sym compared ∙ f))
-
-      path-by : pathBehind second (drop at ws) ≡ ifPath (isPathAt ws at p) p
-      unfolding isPathAt
-      path-by = path-if (same (take (wordsFor (length p)) (drop at ws)) (pathWords p)) refl
-
-      pub path-refused : {space after : List ℕ} {r : Bool} → HandsOver ws at p space r after → r ≡ false
-          → ReadsPath at (pathBehind second (drop at ws)) space path-answer.Malformed after
-      unfolding ifPath
-      path-refused H f = reads-no-path (path-by ∙ rw (sym (H .answer) ∙ f)) (H .bytes ∙ rw f)
-
-      pub path-taken : {space after : List ℕ} {r : Bool} {count : ℕ} → HandsOver ws at p space r after → r ≡ true → count ≡ wordsFor n
-          → ReadsPath at (pathBehind second (drop at ws)) space (path-answer.Path n (at + count)) after
-      unfolding ifPath pathAnswer pathInto
-      path-taken H t c = record {
-        answer = rw (path-by, sym (H .answer) ∙ t, path-count p, size-is, c);
-        bytes = H .bytes ∙ rw (path-by, sym (H .answer) ∙ t, t);
-      }
+    pub path-behind : {space after : List ℕ} {r : PathRead} → ReadsPath at (ifResolved (bytesFrom n (drop at ws))) space r after
+        → ReadsPath at (pathBehind second (drop at ws)) space r after
+    path-behind {space} {after} {r} R = subst (λ (o : Option (Read (List ℕ))). ReadsPath at o space r after) path-is R
 
 -- ---- an act that takes a path
 

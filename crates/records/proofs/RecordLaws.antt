@@ -142,7 +142,7 @@ none-empty : isPath [] ≡ true → ⊥
 unfolding isPath isResolved normalize spell enterAll pieces same entered
 none-empty e = false≢true e
 
-not-empty : (p : List ℕ) → isPath p ≡ true → 1 ≤ length p
+pub not-empty : (p : List ℕ) → isPath p ≡ true → 1 ≤ length p
 not-empty [] e = absurd (none-empty e)
 not-empty (b ∷ p) e = omega arith
 

@@ -36,6 +36,22 @@ unfolding firstWord
 first-is [] e = let z : _≡_ {A = ℕ} 0 1 = cc e in absurd (omega arith)
 first-is (a ∷ l) {w} e = let same : a ≡ w = cc e in ap (λ (b : ℕ). b ∷ l) same
 
+-- a word w stands at a place: the words from there on begin with it, and a reader goes on at `behind`
+pub record Stands (ws : List ℕ) (at w behind : ℕ) : Type 0 where
+  pub here : at < length ws
+  pub words : drop at ws ≡ w ∷ drop (at + 1) ws
+  pub next : behind ≡ at + 1
+
+pub stands : (ws : List ℕ) (at : ℕ) {w behind : ℕ} → firstWord (drop at ws) ≡ Is w → behind ≡ behindFirst (drop at ws) at → Stands ws at w behind
+unfolding behindFirst
+stands ws at {w} e b =
+    let is = first-is (drop at ws) e in
+    record {
+      here = omega (arith, length-drop at ws, ap length is);
+      words = is ∙ ap (λ (l : List ℕ). w ∷ l) (drop-drop 1 at ws);
+      next = b ∙ ap (λ (l : List ℕ). behindFirst l at) is;
+    }
+
 -- a front with a head w: the words from `from` on begin with it, and the rest of the front is what stands behind it
 pub record Headed (ws : List ℕ) (from w : ℕ) (f : Front) : Type 0 where
   pub here : from < length ws
@@ -45,14 +61,12 @@ pub record Headed (ws : List ℕ) (from w : ℕ) (f : Front) : Type 0 where
   pub left : f .left ≡ length ws - f .at
 
 pub headed : (ws : List ℕ) (from : ℕ) {w : ℕ} {f : Front} → f ≡ frontAt ws from → f .head ≡ Is w → Headed ws from w f
-unfolding behindFirst
-headed ws from {w} F e =
-    let first : firstWord (drop from ws) ≡ Is w = sym (ap (λ (g : Front). g .head) F) ∙ e in
-    let is : drop from ws ≡ w ∷ drop 1 (drop from ws) = first-is (drop from ws) first in
-    let step : behindFirst (drop from ws) from ≡ from + 1 = ap (λ (l : List ℕ). behindFirst l from) is in
+headed ws from F e =
+    let S = stands ws from (sym (ap (λ (g : Front). g .head) F) ∙ e) refl in
+    let step = S .next in
     record {
-      here = omega (arith, length-drop from ws, ap length is);
-      words = is ∙ ap (λ (l : List ℕ). w ∷ l) (drop-drop 1 from ws);
+      here = S .here;
+      words = S .words;
       second = ap (λ (g : Front). g .second) F ∙ ap (λ (k : ℕ). firstWord (drop k ws)) step;
       behind = ap (λ (g : Front). g .at) F ∙ ap (λ (k : ℕ). behindFirst (drop k ws) k) step;
       left = ap (λ (g : Front). g .left) F ∙ ap (λ (g : Front). length ws - g .at) (sym F);

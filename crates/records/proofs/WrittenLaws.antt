@@ -61,10 +61,10 @@ use Rattle.records.specs.Records.{
 
 -- ---- what was read, if something was
 
-never : {A : Type 0} {a : A} → none ≡ some a → ⊥
+pub never : {A : Type 0} {a : A} → none ≡ some a → ⊥
 never e = let z : _≡_ {A = ℕ} 0 1 = cc in omega arith
 
-if-some : {A : Type 0} (b : Bool) {o : Option A} {a : A} → cond b o none ≡ some a → (b ≡ true) × (o ≡ some a)
+pub if-some : {A : Type 0} (b : Bool) {o : Option A} {a : A} → cond b o none ≡ some a → (b ≡ true) × (o ≡ some a)
 if-some true e = (refl, e)
 if-some false e = absurd (never e)
 

@@ -1,4 +1,4 @@
--- Words one after another: what stands at a place, where a reader is after it, and what a record begins with. Scope, "Handover, at the top": a record is
+-- Words one after another: what stands at a place, where a reader is after it, and what a record or an image begins with. Scope, "Handover, at the top": a record is
 -- read word after word from the lent words.
 use Prim.Native.Nat.{ℕ, _+_, _-_}
 use mathlib.Core.List.{List, [], _∷_}

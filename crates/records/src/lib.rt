@@ -14,10 +14,10 @@ const PATH: u32 = 3;
 
 const SWITCHES: u32 = 4;
 
-const KIND_UNIT: u32 = 0x1000_0000;
+pub const KIND_UNIT: u32 = 0x1000_0000;
 
 // In a head four act bits stand next, and the change number below them.
-const ACT_UNIT: u32 = 0x100_0000;
+pub const ACT_UNIT: u32 = 0x100_0000;
 
 // The words that the longest record takes: a path of 1,024 bytes, its length and the head.
 pub const RECORD_WORDS: usize = 344;
@@ -33,7 +33,7 @@ pub enum Record {
 }
 
 // What reading a path answers: how many bytes it has, and where the words behind it begin; or that the words are malformed.
-enum PathRead {
+pub enum PathRead {
     Malformed,
     Path(usize, usize),
 }

@@ -25,7 +25,7 @@ ghost use Rattle.paths.specs.Components.{same};
 ghost use Rattle.paths.specs.Copying.{overwrite};
 ghost use Rattle.paths.specs.Resolving.{maxPath};
 ghost use Rattle.table.specs.Carrying.{actionOf};
-ghost use Rattle.records.specs.Records.{pathWords, readFirst};
+ghost use Rattle.records.specs.Records.{pathWords, bytesFrom, ifResolved, readFirst};
 ghost use Rattle.records.specs.Answers.{ReadsRecord};
 ghost use Rattle.records.specs.Steps.{wordsFor, wordBytes, lengthOf, HandsOver, pathBehind, ReadsPath, pathAct, pathRecord, switchesRecord};
 
@@ -93,8 +93,31 @@ fn hand_over(words: &[u32], at: usize, p: &[u8], space: &mut [u8; MAX_PATH]) -> 
     true
 }
 
-// Reads a path into the lent space: its length is what the second word says, and its words begin at a place, behind which so many words are
-// left. The path is put there only when all of it is in order.
+// Reads a path of n bytes into the lent space: its words begin at a place, behind which so many words are left. The path is put there only
+// when all of it is in order.
+pub fn read_path_of(
+    words: &[u32],
+    n: usize,
+    at: usize,
+    left: usize,
+    space: &mut [u8; MAX_PATH],
+) -> PathRead
+    requires { ⌜ (1 ≤ n) × (n ≤ maxPath) × (left ≡ length (now words) - at) ⌝ }
+    ensures { λ r. ⌜ ReadsPath at (ifResolved (bytesFrom n (drop at (now (words .entry))))) (now (space .entry)) r (now (space .exit)) ⌝ }
+{
+    let count = words_for(n);
+    if left < count {
+        return PathRead::Malformed;
+    }
+    let mut work = [0u8; PATH_ROOM];
+    take_bytes(words, at, count, &mut work);
+    if !hand_over(words, at, &work[0..n], space) {
+        return PathRead::Malformed;
+    }
+    PathRead::Path(n, at + count)
+}
+
+// Reads a path whose length is what the second word says.
 fn read_path(
     words: &[u32],
     second: Word,
@@ -109,16 +132,7 @@ fn read_path(
     if n == 0 {
         return PathRead::Malformed;
     }
-    let count = words_for(n);
-    if left < count {
-        return PathRead::Malformed;
-    }
-    let mut work = [0u8; PATH_ROOM];
-    take_bytes(words, at, count, &mut work);
-    if !hand_over(words, at, &work[0..n], space) {
-        return PathRead::Malformed;
-    }
-    PathRead::Path(n, at + count)
+    read_path_of(words, n, at, left, space)
 }
 
 // The act of a head that takes a path.

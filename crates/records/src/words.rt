@@ -23,7 +23,7 @@ pub struct WordRead {
     pub at: usize,
 }
 
-// What a record begins with: its head, the word behind it, the place behind both, and how many words are left there.
+// What a record or an image begins with: its first word, the word behind it, the place behind both, and how many words are left there.
 pub struct Front {
     pub head: Word,
     pub second: Word,
@@ -32,7 +32,7 @@ pub struct Front {
 }
 
 // The word at a place, and the place behind it. At the end the place stays.
-fn read_at(words: &[u32], at: usize) -> WordRead
+pub fn read_at(words: &[u32], at: usize) -> WordRead
     ensures { λ r. ⌜ r ≡ readAt (now (words .entry)) at ⌝ }
 {
     if at < words.len() {
@@ -49,7 +49,7 @@ fn read_at(words: &[u32], at: usize) -> WordRead
 }
 
 // How many words stand from a place on.
-fn left_at(words: &[u32], at: usize) -> usize
+pub fn left_at(words: &[u32], at: usize) -> usize
     ensures { λ r. ⌜ r ≡ length (now (words .entry)) - at ⌝ }
 {
     if at < words.len() {
@@ -89,7 +89,7 @@ pub fn left<'a>(reader: Reader<'a>) -> usize
     left_at(reader.words, reader.at)
 }
 
-// Reads what a record begins with. Both words are read whatever they say, for at the end reading gives nothing: which of them the record
+// Reads what a record or an image begins with. Both words are read whatever they say, for at the end reading gives nothing: which of them it
 // has is decided where they are looked at. The promise says nothing of a reader, so a caller needs no walk.
 pub fn read_front(words: &[u32], from: usize) -> Front
     ensures { λ r. ⌜ r ≡ frontAt (now (words .entry)) from ⌝ }

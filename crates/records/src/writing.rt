@@ -28,8 +28,8 @@ const REVOKE: u32 = 6;
 const REVOKE_ALL: u32 = 7;
 
 // A word of a kind, with low bits below it.
-fn word_of(kind: u32, low: u32) -> u32
-    requires { ⌜ (kind ≤ 4) × (low < kindUnit) ⌝ }
+pub fn word_of(kind: u32, low: u32) -> u32
+    requires { ⌜ (kind < 16) × (low < kindUnit) ⌝ }
     ensures { λ r. ⌜ r ≡ wordOf kind low ⌝ }
 {
     kind * KIND_UNIT + low
@@ -46,7 +46,7 @@ fn byte_or_zero(p: &[u8], i: usize) -> u32
 }
 
 // How many words a path of n bytes takes.
-pub(crate) fn words_for(n: usize) -> usize
+pub fn words_for(n: usize) -> usize
     requires { ⌜ n ≤ maxPath ⌝ }
     ensures { λ r. ⌜ r ≡ wordsFor n ⌝ }
 {
@@ -66,7 +66,7 @@ pub(crate) fn path_word(p: &[u8], k: usize) -> u32
 }
 
 // Writes a path's words, and says where they end.
-fn write_path_words(words: &mut [u32], at: usize, p: &[u8]) -> usize
+pub fn write_path_words(words: &mut [u32], at: usize, p: &[u8]) -> usize
     requires { ⌜ (length (now p) ≤ maxPath) × (at + wordsFor (length (now p)) ≤ length (now words)) ⌝ }
     ensures { λ r. ⌜ Appends (pathWords (now (p .entry))) (now (words .entry)) at (now (words .exit)) r ⌝ }
 {

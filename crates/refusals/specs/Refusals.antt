@@ -17,9 +17,10 @@ use Rattle.refusals.specs.declared.Refusal.the-variants.{
   NumbersUsedUp,
   Escalation,
   MalformedRecord,
+  MalformedImage,
 }
 
--- in the checking order, in which 12 stands between 2 and 3
+-- in the checking order, in which 12 stands between 2 and 3, and 13 in the place of 11
 abbrev pub refusalNumber : Refusal → ℕ
 refusalNumber NoTable = 1
 refusalNumber NoSpace = 2
@@ -33,6 +34,7 @@ refusalNumber TableFull = 8
 refusalNumber NumbersUsedUp = 9
 refusalNumber Escalation = 10
 refusalNumber MalformedRecord = 11
+refusalNumber MalformedImage = 13
 
 -- a condition, and the cause that it is of
 pub data Condition : Type 0 where

@@ -5,7 +5,7 @@ ghost use Rattle.refusals.specs.Refusals.{refusalNumber};
 pub enum Refusal {
     // Lent memory is too small for a table or holds none, or the standby's n is above its h.
     NoTable,
-    // Lent text or record space is too small.
+    // Lent text, record or image space is too small.
     NoSpace,
     // A number that should be a state, of a permission without a path, is none.
     UnknownState,
@@ -18,11 +18,13 @@ pub enum Refusal {
     ResolvedTooLong,
     // An insert would add an entry, and there is no room for it.
     TableFull,
-    // A recorded act needs a change number above the greatest.
+    // A recorded act needs a change number above the greatest, or an image would have one.
     NumbersUsedUp,
     // A child asks for more than its parent passes.
     Escalation,
     MalformedRecord,
+    // The words are no image, or their content is no table.
+    MalformedImage,
 }
 
 // The scope's number of a cause.
@@ -42,5 +44,6 @@ pub fn refusal_number(refusal: Refusal) -> u8
         Refusal::NumbersUsedUp => 9,
         Refusal::Escalation => 10,
         Refusal::MalformedRecord => 11,
+        Refusal::MalformedImage => 13,
     }
 }

@@ -52,15 +52,15 @@ use Rattle.standby.specs.Steps.{unchanged, Takes}
 -- ---- the checking order
 
 module _ (m : List ℕ) (s : Numbers) where
-  no-standby : holds m ≡ false → standbyIn m s ≡ refused NoTable
+  pub no-standby : holds m ≡ false → standbyIn m s ≡ refused NoTable
   unfolding standbyIn firstCause unless
   no-standby h = rw h
 
-  n-above : holds m ≡ true → s .h < s .n → standbyIn m s ≡ refused NoTable
+  pub n-above : holds m ≡ true → s .h < s .n → standbyIn m s ≡ refused NoTable
   unfolding standbyIn firstCause unless
   n-above h l = rw (h, lt-ltb _ _ l)
 
-  a-standby : holds m ≡ true → s .n ≤ s .h → standbyIn m s ≡ ok (tableOf m)
+  pub a-standby : holds m ≡ true → s .n ≤ s .h → standbyIn m s ≡ ok (tableOf m)
   unfolding standbyIn firstCause unless
   a-standby h l = rw (h, le-ltb _ _ l)
 

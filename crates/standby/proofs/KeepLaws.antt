@@ -52,7 +52,7 @@ module _ (m : List ℕ) (h : holds m ≡ true) where
 
 -- ---- the numbers
 
-higher-least : (h number : ℕ) → (h ≤ higher h number) × (number ≤ higher h number)
+pub higher-least : (h number : ℕ) → (h ≤ higher h number) × (number ≤ higher h number)
 unfolding higher
 higher-least h number = go (ltb h number) refl
   where
@@ -67,7 +67,7 @@ pub record Raises (s s′ : Numbers) : Type 0 where
   pub ordered : s .n ≤ s .h → s′ .n ≤ s′ .h
 
 module _ (s : Numbers) where
-  raises-none : Raises s s
+  pub raises-none : Raises s s
   raises-none = record { last = omega arith; highest = omega arith; ordered = λ l. l }
 
   passed-raises : (a : Arrival) (c : Change) → Raises s (numbersIn (passedBy a s c) s)

@@ -1,3 +1,5 @@
 pub mod ArrivingLaws
 pub mod KeepLaws
+pub mod Lending
+pub mod LoadingLaws
 pub mod OwingLaws

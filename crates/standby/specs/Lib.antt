@@ -1,3 +1,4 @@
 pub mod Arriving
+pub mod Loading
 pub mod Owing
 pub mod Steps

@@ -19,7 +19,7 @@ ghost use Rattle.standby.specs.Arriving.{higher, Arrives};
 ghost use Rattle.standby.specs.Steps.{unchanged, Takes};
 
 // The higher of two numbers.
-fn higher_of(h: u64, number: u64) -> u64
+pub(crate) fn higher_of(h: u64, number: u64) -> u64
     ensures { λ r. ⌜ r ≡ higher h number ⌝ }
 {
     if h < number {
@@ -29,7 +29,7 @@ fn higher_of(h: u64, number: u64) -> u64
 }
 
 // An arrival that is refused: the numbers stay.
-fn refused(cause: Refusal, numbers: Numbers) -> Arrived
+pub(crate) fn refused(cause: Refusal, numbers: Numbers) -> Arrived
     ensures { λ r. ⌜ r ≡ unchanged cause numbers ⌝ }
 {
     Arrived {

@@ -38,7 +38,7 @@ pub fn clear_bit(n: u8, bit: u8) -> u8
 }
 
 // The marks when an entry of a kind is inserted; each mark is set at most once.
-pub(crate) fn marked(kind: Kind, marks: u8) -> u8
+pub fn marked(kind: Kind, marks: u8) -> u8
     requires { ⌜ marks ≤ 7 ⌝ }
     ensures { λ r. ⌜ r ≡ marked kind marks ⌝ }
 {

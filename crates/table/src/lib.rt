@@ -18,7 +18,7 @@ pub mod writing;
 pub const TABLE_BYTES: usize = 33540;
 
 // The bytes before the first entry, and those before an entry's path.
-const HEAD: usize = 4;
+pub const HEAD: usize = 4;
 
 const ENTRY_HEAD: usize = 3;
 
@@ -28,16 +28,16 @@ const SWITCHES_AT: usize = 2;
 const MARKS_AT: usize = 3;
 
 // Limits: entries, the sum of their path lengths, the last kind, and all five switches.
-const MAX_ENTRIES: usize = 256;
+pub const MAX_ENTRIES: usize = 256;
 
-const MAX_PATH_BYTES: usize = 32768;
+pub const MAX_PATH_BYTES: usize = 32768;
 
 const MAX_KIND: u8 = 3;
 
 pub const MAX_SWITCHES: u8 = 31;
 
 // The greatest change number.
-const MAX_NUMBER: u64 = 16777215;
+pub const MAX_NUMBER: u64 = 16777215;
 
 // Switches.
 pub const GRANTED: u8 = 1;

@@ -47,7 +47,7 @@ pub fn kind_of(n: u32) -> KindRead
 }
 
 // The kind of a kind byte.
-pub(crate) fn kind_from(byte: u8) -> Kind
+pub fn kind_from(byte: u8) -> Kind
     ensures { λ r. ⌜ r ≡ kindFrom byte ⌝ }
 {
     match byte {

@@ -16,6 +16,9 @@ enum-told-2 c = search needs
 enum-told-3 : tie.Need-enum-told-3
 enum-told-3 c = search needs
 
+enum-told-4 : tie.Need-enum-told-4
+enum-told-4 c = search needs
+
 enum-known-answer : tie.Need-enum-known-answer
 enum-known-answer c = search needs
 
@@ -32,7 +35,10 @@ returns-3 : tie.Need-returns-3
 returns-3 c = sym (ap arrivalNumber (c .enum-told3 .given .1))
 
 returns-4 : tie.Need-returns-4
-returns-4 c = read-back w32 _ (c .refused .ok) ∙ c .refused .ensures ∙ sym (ap arrivalNumber (c .before .before .answer .given .1))
+returns-4 c = sym (ap arrivalNumber (c .enum-told4 .given .1))
+
+returns-5 : tie.Need-returns-5
+returns-5 c = read-back w32 _ (c .refused .ok) ∙ c .refused .ensures ∙ sym (ap arrivalNumber (c .before .before .answer .given .1))
 
 pub arrival-number-spec : {M : Type 1} → statement M
 arrival-number-spec =
@@ -41,9 +47,11 @@ arrival-number-spec =
     enum-told
     enum-told-2
     enum-told-3
+    enum-told-4
     enum-known-answer
     refused-requires
     returns
     returns-2
     returns-3
-    returns-4)
+    returns-4
+    returns-5)

@@ -1,0 +1,5 @@
+pub mod ImageLaws
+pub mod WrittenLaws
+pub mod ReadingLaws
+pub mod WritingLaws
+pub mod LoadingLaws

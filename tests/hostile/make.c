@@ -529,16 +529,22 @@ static uint32_t likely_word(size_t place, size_t size)
     return word_of(PATH_WORD, any_three());
 }
 
-size_t make_words(uint32_t *words)
+/* Words of any bits, or mostly such as might stand at their places; mostly fewer than `few`. */
+static size_t make_likely(uint32_t *words, uint32_t few, uint32_t (*likely)(size_t place, size_t size))
 {
-    size_t size = one_in(32) ? below(MOST_WORDS + 1) : below(one_in(8) ? 400 : 6);
+    size_t size = one_in(32) ? below(MOST_WORDS + 1) : below(one_in(8) ? 400 : few);
 
     make_noise((uint8_t *)words, size * sizeof words[0]);
     if (one_in(4))
         return size;
     for (size_t i = 0; i < size; i++)
-        words[i] = likely_word(i, size);
+        words[i] = likely(i, size);
     return size;
+}
+
+size_t make_words(uint32_t *words)
+{
+    return make_likely(words, 6, likely_word);
 }
 
 /* ---- images */
@@ -700,8 +706,9 @@ size_t make_image_damage(uint32_t *words, size_t size)
 }
 
 /* A word that might stand at this place of an image. */
-static uint32_t likely_image_word(size_t place)
+static uint32_t likely_image_word(size_t place, size_t size)
 {
+    (void)size;
     if (one_in(16))
         return word_of(below(9), make_record_number());
     if (place == 0)
@@ -715,12 +722,5 @@ static uint32_t likely_image_word(size_t place)
 
 size_t make_image_words(uint32_t *words)
 {
-    size_t size = one_in(32) ? below(MOST_WORDS + 1) : below(one_in(8) ? 400 : 8);
-
-    make_noise((uint8_t *)words, size * sizeof words[0]);
-    if (one_in(4))
-        return size;
-    for (size_t i = 0; i < size; i++)
-        words[i] = likely_image_word(i);
-    return size;
+    return make_likely(words, 8, likely_image_word);
 }

@@ -8,3 +8,4 @@ pub mod Entering
 pub mod Answering
 pub mod GivingLaws
 pub mod ByteLaws
+pub mod ApartLaws

@@ -1,10 +1,10 @@
 // How two paths relate, in one pass over both, component by component and byte by byte.
 use crate::Relation;
 ghost use mathlib.Core.Path.{_≡_};
-ghost use Prim.Native.Nat.{_≤_};
+ghost use Prim.Native.Nat.{_+_, _≤_};
 ghost use lib.ListN.{length, drop};
 ghost use Rattle.paths.specs.Relations.{isPrefix, relation};
-ghost use Rattle.paths.specs.Relating.{rankOf, Begins, FirstEnd};
+ghost use Rattle.paths.specs.Relating.{rankOf, Begins, FirstEnd, sameEight, lesserLength, TellsApart};
 
 // How the byte at i compares inside a component: 0 where the component ends, and else one more than the byte.
 fn rank(p: &[u8], i: usize) -> usize
@@ -103,4 +103,41 @@ pub fn is_prefix(p: &[u8], q: &[u8]) -> bool
         Relation::Less => false,
         Relation::Greater => false,
     }
+}
+
+// Whether the eight bytes from i on are the same in both. With no branch between them they are compared at once.
+fn same_eight(p: &[u8], q: &[u8], i: usize) -> bool
+    requires { ⌜ (i + 8 ≤ length (now p)) × (i + 8 ≤ length (now q)) ⌝ }
+    ensures { λ r. ⌜ r ≡ sameEight (now (p .entry)) (now (q .entry)) i ⌝ }
+{
+    (p[i] == q[i])
+        & (p[i + 1] == q[i + 1])
+        & (p[i + 2] == q[i + 2])
+        & (p[i + 3] == q[i + 3])
+        & (p[i + 4] == q[i + 4])
+        & (p[i + 5] == q[i + 5])
+        & (p[i + 6] == q[i + 6])
+        & (p[i + 7] == q[i + 7])
+}
+
+// How many bytes the shorter of two paths has.
+fn lesser_length(p: &[u8], q: &[u8]) -> usize
+    ensures { λ r. ⌜ r ≡ lesserLength (now (p .entry)) (now (q .entry)) ⌝ }
+{
+    if p.len() < q.len() { p.len() } else { q.len() }
+}
+
+// Whether a quick test finds that of two resolved paths neither is a prefix of the other: a byte that both have is not the same. From the end of the
+// shorter path it goes towards the start, where paths are likely to be alike, eight bytes at a time; the first up to seven are not looked at.
+pub fn is_apart(p: &[u8], q: &[u8]) -> bool
+    ensures { λ r. ⌜ TellsApart (now (p .entry)) (now (q .entry)) r ⌝ }
+{
+    let mut n = lesser_length(p, q);
+    while n >= 8 {
+        n -= 8;
+        if !same_eight(p, q, n) {
+            return true;
+        }
+    }
+    false
 }

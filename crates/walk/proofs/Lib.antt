@@ -1,3 +1,4 @@
 pub mod Cases
 pub mod WalkLaws
 pub mod QueryLaws
+pub mod SeeingLaws

@@ -1,4 +1,4 @@
 pub mod Walk
 pub mod Calls
-pub mod Matching
+pub mod Seeing
 pub mod Cases

@@ -128,22 +128,23 @@ isDenied t noPath = has (t .switches) flagDenied || (has (t .switches) promptDen
 isDenied t (path q) = has (t .switches) flagDenied
 
 -- without a match: switch 4 Ignored; mode denied and partial, DeniedPartial; switch 2 Denied; switch 1 allowed; else Prompt
-unfoldable pub withoutMatch : Table → AllowPartial → Query → PermissionState
-withoutMatch t mode d =
+unfoldable pub withoutMatch : Table → AllowPartial → Query → Bool → PermissionState
+withoutMatch t mode d partial =
     cond (has (t .switches) flagIgnored) Ignored
-    (cond (isDeniedMode mode && isPartial t d) DeniedPartial
+    (cond (isDeniedMode mode && partial) DeniedPartial
     (cond (isDenied t d) Denied
-    (cond (has (t .switches) granted) (allowed (isPartial t d) mode)
+    (cond (has (t .switches) granted) (allowed partial mode)
     Prompt)))
 
-unfoldable pub byMatch : Table → AllowPartial → Query → Option Entry → PermissionState
-byMatch t mode d none = withoutMatch t mode d
-byMatch t mode d (some e) = decidedBy (e .kind) (allowed (isPartial t d) mode)
+-- by the first match, if there is one, and by whether what is asked about is partial
+unfoldable pub byMatch : Table → AllowPartial → Query → Option Entry → Bool → PermissionState
+byMatch t mode d none partial = withoutMatch t mode d partial
+byMatch t mode d (some e) partial = decidedBy (e .kind) (allowed partial mode)
 
 -- the Rust's `query_desc`; with no path the walk is skipped
 unfoldable pub queryDesc : Table → AllowPartial → Query → PermissionState
-queryDesc t mode noPath = withoutMatch t mode noPath
-queryDesc t mode (path q) = byMatch t mode (path q) (firstMatch q (t .entries))
+queryDesc t mode noPath = withoutMatch t mode noPath (isPartial t noPath)
+queryDesc t mode (path q) = byMatch t mode (path q) (firstMatch q (t .entries)) (isPartial t (path q))
 
 -- the Rust's `is_allow_all`: switch 1 alone of 1, 2, 4, 8 is set and no mark is
 unfoldable pub isAllowAll : Table → Bool

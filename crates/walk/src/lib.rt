@@ -1,5 +1,6 @@
 // What a query answers. The definitions are in specs/.
 use refusals::Refusal;
+use table::Kind;
 
 pub mod querying;
 pub mod walking;
@@ -27,10 +28,22 @@ pub enum ModeRead {
     Unknown,
 }
 
-// What the entries alone say of a path: nothing, as none matches, or the state that the first match decides.
-pub enum ExactMatch {
-    Undecided,
-    State(PermissionState),
+// What one comparison tells of an entry's path: whether it is a prefix of the query's, and whether that is a prefix of it.
+pub struct Met {
+    pub above: bool,
+    pub below: bool,
+}
+
+// The kind of the first match, if there is one.
+pub enum FirstMatch {
+    Nothing,
+    Match(Kind),
+}
+
+// What was seen of the entries read so far: the first match, and whether a partial denial was met.
+pub struct Seen {
+    pub first: FirstMatch,
+    pub partial: bool,
 }
 
 // What the call query answers: a state, or why it is refused.

@@ -1,11 +1,15 @@
 // What a query answers, from a table in lent memory. Scope, "The walk". The names are the Rust's where a function is.
 use crate::AllowPartial;
-use crate::ExactMatch;
+use crate::FirstMatch;
+use crate::Met;
 use crate::ModeRead;
 use crate::PermissionState;
+use crate::Seen;
 use paths::Descriptor;
-use paths::relating::is_prefix;
-use table::Cursor;
+use paths::Relation;
+use paths::relating::is_apart;
+use paths::relating::relate;
+use paths::resolving::is_resolved;
 use table::FLAG_DENIED;
 use table::FLAG_IGNORED;
 use table::GRANTED;
@@ -21,16 +25,12 @@ ghost use mathlib.Core.Path.{_≡_};
 ghost use mathlib.Core.Bool.{true, _&&_};
 ghost use mathlib.Core.List.{List};
 ghost use Prim.Native.Nat.{ℕ};
-ghost use Rattle.paths.specs.Giving.{path, queryOf};
+ghost use Rattle.paths.specs.Resolving.{isResolved};
+ghost use Rattle.paths.specs.Giving.{queryOf};
 ghost use Rattle.table.specs.Memory.{tableOf, holds};
-ghost use Rattle.table.specs.Reading.{Reads, entryIn};
 ghost use Rattle.walk.specs.Walk.{
   stateNumber,
   modeOf,
-  matchesKind,
-  matches,
-  isFlagBelow,
-  isPartial,
   allowed,
   decidedBy,
   isDenied,
@@ -39,7 +39,18 @@ ghost use Rattle.walk.specs.Walk.{
   queryDesc,
   isAllowAll,
 };
-ghost use Rattle.walk.specs.Matching.{exactMatch};
+ghost use Rattle.walk.specs.Seeing.{
+  Meets,
+  matchesBy,
+  partialBy,
+  firstOf,
+  SeesMore,
+  settles,
+  isSettled,
+  Walks,
+  Follows,
+  Decides,
+};
 
 // ---- numbers
 
@@ -71,126 +82,195 @@ pub(crate) fn mode_of(n: u32) -> ModeRead
 
 // ---- an entry
 
-// Whether an entry with this kind and path matches q. P shuts its path and what lies above it, not what lies below.
-fn matches_kind(kind: Kind, path: &[u8], q: &[u8]) -> bool
-    ensures { λ r. ⌜ r ≡ matchesKind kind (now («path» .entry)) (now (q .entry)) ⌝ }
+// How an entry's path meets q, by one comparison. Where q is in resolved form too, a quick test comes first, and passes over most paths that have
+// nothing to do with q.
+fn meet(path: &[u8], q: &[u8], resolved: bool) -> Met
+    requires { ⌜ (isResolved (now path) ≡ true) × (resolved ≡ isResolved (now q)) ⌝ }
+    ensures { λ r. ⌜ Meets (now («path» .entry)) (now (q .entry)) r ⌝ }
+{
+    if resolved {
+        if is_apart(path, q) {
+            return Met {
+                above: false,
+                below: false,
+            };
+        }
+    }
+    match relate(path, q) {
+        Relation::Equal => Met {
+            above: true,
+            below: true,
+        },
+        Relation::Prefix => Met {
+            above: true,
+            below: false,
+        },
+        Relation::Extension => Met {
+            above: false,
+            below: true,
+        },
+        Relation::Less => Met {
+            above: false,
+            below: false,
+        },
+        Relation::Greater => Met {
+            above: false,
+            below: false,
+        },
+    }
+}
+
+// Whether an entry of a kind matches. P shuts its path and what lies above it, not what lies below.
+fn matches(kind: Kind, met: Met) -> bool
+    ensures { λ r. ⌜ r ≡ matchesBy kind (met .above) (met .below) ⌝ }
 {
     match kind {
-        Kind::G => is_prefix(path, q),
-        Kind::D => is_prefix(path, q),
-        Kind::P => is_prefix(q, path),
-        Kind::I => is_prefix(path, q),
+        Kind::G => met.above,
+        Kind::D => met.above,
+        Kind::P => met.below,
+        Kind::I => met.above,
     }
 }
 
-// Whether the entry where a cursor stands matches q.
-fn matches(mem: &[u8], cursor: Cursor, q: &[u8]) -> bool
-    requires { ⌜ Reads (now mem) cursor ⌝ }
-    ensures { λ r. ⌜ r ≡ matches (now (q .entry)) (entryIn (now (mem .entry)) cursor) ⌝ }
+// Whether a partial denial was met, with one entry more: a D or I whose path has prefix q is one.
+fn is_partial(partial: bool, kind: Kind, below: bool) -> bool
+    ensures { λ r. ⌜ r ≡ partialBy partial kind below ⌝ }
 {
-    matches_kind(reading::kind(mem, cursor), reading::path(mem, cursor), q)
-}
-
-// Whether it is a D or I whose path has prefix q.
-fn is_flag_below(mem: &[u8], cursor: Cursor, q: &[u8]) -> bool
-    requires { ⌜ Reads (now mem) cursor ⌝ }
-    ensures { λ r. ⌜ r ≡ isFlagBelow (now (q .entry)) (entryIn (now (mem .entry)) cursor) ⌝ }
-{
-    match reading::kind(mem, cursor) {
-        Kind::G => false,
-        Kind::D => is_prefix(q, reading::path(mem, cursor)),
-        Kind::P => false,
-        Kind::I => is_prefix(q, reading::path(mem, cursor)),
+    match kind {
+        Kind::G => partial,
+        Kind::D => partial | below,
+        Kind::P => partial,
+        Kind::I => partial | below,
     }
 }
 
-// ---- partial
+// ---- the walk
 
-// Whether some D or I has a path with prefix q.
-fn has_flag_below(mem: &[u8], q: &[u8]) -> bool
+// The first match, with one entry more: an earlier one stays.
+fn first_of(first: FirstMatch, kind: Kind, hit: bool) -> FirstMatch
+    ensures { λ r. ⌜ r ≡ firstOf first kind hit ⌝ }
+{
+    if hit {
+        match first {
+            FirstMatch::Nothing => FirstMatch::Match(kind),
+            FirstMatch::Match(earlier) => FirstMatch::Match(earlier),
+        }
+    } else {
+        first
+    }
+}
+
+// What was seen, with one entry more.
+fn with_entry(seen: Seen, kind: Kind, met: Met) -> Seen
+    ensures { λ r. ⌜ SeesMore kind met seen r ⌝ }
+{
+    let first = seen.first;
+    Seen {
+        first: first_of(first, kind, matches(kind, met)),
+        partial: is_partial(seen.partial, kind, met.below),
+    }
+}
+
+// Whether a match of a kind settles the state, whatever comes later.
+fn settles(kind: Kind, mode: AllowPartial, partial: bool) -> bool
+    ensures { λ r. ⌜ r ≡ settles kind mode partial ⌝ }
+{
+    match kind {
+        Kind::G => match mode {
+            AllowPartial::TreatAsDenied => partial,
+            AllowPartial::TreatAsPartialGranted => partial,
+            AllowPartial::TreatAsGranted => true,
+        },
+        Kind::D => true,
+        Kind::P => true,
+        Kind::I => true,
+    }
+}
+
+// Whether no later entry can change the state.
+fn is_settled(seen: Seen, mode: AllowPartial) -> bool
+    ensures { λ r. ⌜ r ≡ isSettled (seen .first) mode (seen .partial) ⌝ }
+{
+    let first = seen.first;
+    match first {
+        FirstMatch::Nothing => false,
+        FirstMatch::Match(kind) => settles(kind, mode, seen.partial),
+    }
+}
+
+// The entries in list order, each read once, until the state is settled.
+fn walk(mem: &[u8], mode: AllowPartial, q: &[u8]) -> Seen
     requires { ⌜ holds (now mem) ≡ true ⌝ }
-    ensures { λ r. ⌜ r ≡ isPartial (tableOf (now (mem .entry))) (path (now (q .entry))) ⌝ }
+    ensures { λ r. ⌜ Walks (tableOf (now (mem .entry)) .entries) mode (now (q .entry)) r ⌝ }
 {
+    let resolved = is_resolved(q);
+    let mut seen = Seen {
+        first: FirstMatch::Nothing,
+        partial: false,
+    };
     let mut cursor = reading::first(mem);
     while reading::is_at_entry(cursor) {
-        if is_flag_below(mem, cursor, q) {
-            return true;
+        let met = meet(reading::path(mem, cursor), q, resolved);
+        if met.above | met.below {
+            seen = with_entry(seen, reading::kind(mem, cursor), met);
+            if is_settled(seen, mode) {
+                return seen;
+            }
         }
         cursor = reading::advance(mem, cursor);
     }
-    false
+    seen
 }
 
-// Whether part of what is asked about is denied or ignored.
-fn is_partial_flag_denied(mem: &[u8], d: Descriptor, q: &[u8]) -> bool
+// What was seen of the entries or, with no path, of the marks.
+fn see(mem: &[u8], mode: AllowPartial, d: Descriptor, q: &[u8]) -> Seen
     requires { ⌜ holds (now mem) ≡ true ⌝ }
-    ensures { λ r. ⌜ r ≡ isPartial (tableOf (now (mem .entry))) (queryOf d (now (q .entry))) ⌝ }
+    ensures { λ r. ⌜ Decides (tableOf (now (mem .entry))) mode (queryOf d (now (q .entry))) r ⌝ }
 {
     match d {
-        Descriptor::NoPath => has_mark(mem, HAS_FLAG_DENIED) || has_mark(mem, HAS_FLAG_IGNORED),
-        Descriptor::Path => has_flag_below(mem, q),
-    }
-}
-
-// The state of what is allowed, by whether it is partial and what the mode makes of that.
-fn query_allowed_desc(mem: &[u8], mode: AllowPartial, d: Descriptor, q: &[u8]) -> PermissionState
-    requires { ⌜ holds (now mem) ≡ true ⌝ }
-    ensures { λ r. ⌜ r ≡ allowed (isPartial (tableOf (now (mem .entry))) (queryOf d (now (q .entry)))) mode ⌝ }
-{
-    match mode {
-        AllowPartial::TreatAsGranted => PermissionState::Granted,
-        AllowPartial::TreatAsDenied => {
-            if is_partial_flag_denied(mem, d, q) {
-                return PermissionState::DeniedPartial;
-            }
-            PermissionState::Granted
-        }
-        AllowPartial::TreatAsPartialGranted => {
-            if is_partial_flag_denied(mem, d, q) {
-                return PermissionState::GrantedPartial;
-            }
-            PermissionState::Granted
-        }
+        Descriptor::NoPath => Seen {
+            first: FirstMatch::Nothing,
+            partial: has_mark(mem, HAS_FLAG_DENIED) || has_mark(mem, HAS_FLAG_IGNORED),
+        },
+        Descriptor::Path => walk(mem, mode, q),
     }
 }
 
 // ---- the state
 
+// The state of what is allowed, by whether it is partial and what the mode makes of that.
+fn query_allowed_desc(partial: bool, mode: AllowPartial) -> PermissionState
+    ensures { λ r. ⌜ r ≡ allowed partial mode ⌝ }
+{
+    if partial {
+        match mode {
+            AllowPartial::TreatAsDenied => PermissionState::DeniedPartial,
+            AllowPartial::TreatAsPartialGranted => PermissionState::GrantedPartial,
+            AllowPartial::TreatAsGranted => PermissionState::Granted,
+        }
+    } else {
+        PermissionState::Granted
+    }
+}
+
 // What a match of a kind decides.
-fn decided_by(mem: &[u8], kind: Kind, mode: AllowPartial, q: &[u8]) -> PermissionState
-    requires { ⌜ holds (now mem) ≡ true ⌝ }
-    ensures { λ r. ⌜ r ≡ decidedBy kind (allowed (isPartial (tableOf (now (mem .entry))) (path (now (q .entry)))) mode) ⌝ }
+fn decided_by(kind: Kind, state: PermissionState) -> PermissionState
+    ensures { λ r. ⌜ r ≡ decidedBy kind state ⌝ }
 {
     match kind {
-        Kind::G => query_allowed_desc(mem, mode, Descriptor::Path, q),
+        Kind::G => state,
         Kind::D => PermissionState::Denied,
         Kind::P => PermissionState::Denied,
         Kind::I => PermissionState::Ignored,
     }
 }
 
-// The entries in list order: the first match decides.
-fn query_allowed_desc_for_exact_match(mem: &[u8], mode: AllowPartial, q: &[u8]) -> ExactMatch
-    requires { ⌜ holds (now mem) ≡ true ⌝ }
-    ensures { λ r. ⌜ r ≡ exactMatch (tableOf (now (mem .entry))) mode (now (q .entry)) ⌝ }
-{
-    let mut cursor = reading::first(mem);
-    while reading::is_at_entry(cursor) {
-        if matches(mem, cursor, q) {
-            return ExactMatch::State(decided_by(mem, reading::kind(mem, cursor), mode, q));
-        }
-        cursor = reading::advance(mem, cursor);
-    }
-    ExactMatch::Undecided
-}
-
 // Whether the mode denies what is asked about because it is partial.
-fn is_denied_partial(mem: &[u8], mode: AllowPartial, d: Descriptor, q: &[u8]) -> bool
-    requires { ⌜ holds (now mem) ≡ true ⌝ }
-    ensures { λ r. ⌜ r ≡ isDeniedMode mode && isPartial (tableOf (now (mem .entry))) (queryOf d (now (q .entry))) ⌝ }
+fn is_denied_partial(partial: bool, mode: AllowPartial) -> bool
+    ensures { λ r. ⌜ r ≡ isDeniedMode mode && partial ⌝ }
 {
     match mode {
-        AllowPartial::TreatAsDenied => is_partial_flag_denied(mem, d, q),
+        AllowPartial::TreatAsDenied => partial,
         AllowPartial::TreatAsPartialGranted => false,
         AllowPartial::TreatAsGranted => false,
     }
@@ -211,23 +291,35 @@ fn is_denied(mem: &[u8], d: Descriptor) -> bool
 }
 
 // The state where no entry decides.
-fn without_match(mem: &[u8], mode: AllowPartial, d: Descriptor, q: &[u8]) -> PermissionState
+fn without_match(mem: &[u8], mode: AllowPartial, d: Descriptor, partial: bool) -> PermissionState
     requires { ⌜ holds (now mem) ≡ true ⌝ }
-    ensures { λ r. ⌜ r ≡ withoutMatch (tableOf (now (mem .entry))) mode (queryOf d (now (q .entry))) ⌝ }
+    ensures { λ r. ⌜ ((q : List ℕ) → r ≡ withoutMatch (tableOf (now (mem .entry))) mode (queryOf d q) partial) ⌝ }
 {
     if has_switch(mem, FLAG_IGNORED) {
         return PermissionState::Ignored;
     }
-    if is_denied_partial(mem, mode, d, q) {
+    if is_denied_partial(partial, mode) {
         return PermissionState::DeniedPartial;
     }
     if is_denied(mem, d) {
         return PermissionState::Denied;
     }
     if has_switch(mem, GRANTED) {
-        return query_allowed_desc(mem, mode, d, q);
+        return query_allowed_desc(partial, mode);
     }
     PermissionState::Prompt
+}
+
+// The state that follows from what was seen, the switches and the marks.
+fn state_of(mem: &[u8], mode: AllowPartial, d: Descriptor, seen: Seen) -> PermissionState
+    requires { ⌜ holds (now mem) ≡ true ⌝ }
+    ensures { λ r. ⌜ ((q : List ℕ) → Follows (tableOf (now (mem .entry))) mode (queryOf d q) seen r) ⌝ }
+{
+    let first = seen.first;
+    match first {
+        FirstMatch::Nothing => without_match(mem, mode, d, seen.partial),
+        FirstMatch::Match(kind) => decided_by(kind, query_allowed_desc(seen.partial, mode)),
+    }
 }
 
 // What a query answers; with no path the walk is skipped.
@@ -235,13 +327,7 @@ pub fn query_desc(mem: &[u8], mode: AllowPartial, d: Descriptor, q: &[u8]) -> Pe
     requires { ⌜ holds (now mem) ≡ true ⌝ }
     ensures { λ r. ⌜ r ≡ queryDesc (tableOf (now (mem .entry))) mode (queryOf d (now (q .entry))) ⌝ }
 {
-    match d {
-        Descriptor::NoPath => without_match(mem, mode, d, q),
-        Descriptor::Path => match query_allowed_desc_for_exact_match(mem, mode, q) {
-            ExactMatch::State(state) => state,
-            ExactMatch::Undecided => without_match(mem, mode, d, q),
-        },
-    }
+    state_of(mem, mode, d, see(mem, mode, d, q))
 }
 
 // Whether every query is granted: switch 1 alone of 1, 2, 4, 8 is set, and no mark is.

@@ -7,9 +7,6 @@ use Rattle.walk.proofs.walking.is_denied_partial.Tie as tie
 enum-told : tie.Need-enum-told
 enum-told c = search needs
 
-is-partial-flag-denied-requires : tie.Need-is-partial-flag-denied-requires
-is-partial-flag-denied-requires c κs = search needs
-
 enum-told-2 : tie.Need-enum-told-2
 enum-told-2 c = search needs
 
@@ -18,7 +15,7 @@ enum-told-3 c = search needs
 
 returns : tie.Need-returns
 unfolding isDeniedMode
-returns c = rw (c .before .enum-told .given .1) (c .is-partial-flag-denied .ensures)
+returns c = rw (c .enum-told .given .1)
 
 returns-2 : tie.Need-returns-2
 unfolding isDeniedMode
@@ -29,13 +26,4 @@ unfolding isDeniedMode
 returns-3 c = rw (c .enum-told3 .given .1)
 
 pub is-denied-partial-spec : {M : Type 1} → statement M
-is-denied-partial-spec =
-    tie.close
-    (tie.spec
-    enum-told
-    is-partial-flag-denied-requires
-    enum-told-2
-    enum-told-3
-    returns
-    returns-2
-    returns-3)
+is-denied-partial-spec = tie.close (tie.spec enum-told enum-told-2 enum-told-3 returns returns-2 returns-3)

@@ -10,7 +10,7 @@ has-switch-requires c κs = search needs
 
 returns : tie.Need-returns
 unfolding withoutMatch
-returns c = rw (sym (c .before .has-switch .ensures) ∙ c .if1 .taken)
+returns c = λ q. rw (sym (c .before .has-switch .ensures) ∙ c .if1 .taken)
 
 is-denied-partial-requires : tie.Need-is-denied-partial-requires
 is-denied-partial-requires c κs = search needs
@@ -19,7 +19,7 @@ returns-2 : tie.Need-returns-2
 unfolding withoutMatch
 returns-2 c =
     let ignored = c .before .before in
-    rw (
+    λ q. rw (
       sym (ignored .before .has-switch .ensures) ∙ ignored .if1 .left,
       sym (c .before .is-denied-partial .ensures) ∙ c .if2 .taken,
     )
@@ -32,8 +32,7 @@ unfolding withoutMatch
 returns-3 c =
     let partial = c .before .before in
     let ignored = partial .before .before in
-    let q = ignored .before .before .before .before .args .q .now in
-    rw (
+    λ q. rw (
       sym (ignored .before .has-switch .ensures) ∙ ignored .if1 .left,
       sym (partial .before .is-denied-partial .ensures) ∙ partial .if2 .left,
       sym (c .before .is-denied .ensures q) ∙ c .if3 .taken,
@@ -52,8 +51,7 @@ returns-4 c =
     let denied = granted .before .before in
     let partial = denied .before .before in
     let ignored = partial .before .before in
-    let q = ignored .before .before .before .before .args .q .now in
-    rw (
+    λ q. rw (
       sym (ignored .before .has-switch .ensures) ∙ ignored .if1 .left,
       sym (partial .before .is-denied-partial .ensures) ∙ partial .if2 .left,
       sym (denied .before .is-denied .ensures q) ∙ denied .if3 .left,
@@ -67,8 +65,7 @@ returns-5 c =
     let denied = c .before .before in
     let partial = denied .before .before in
     let ignored = partial .before .before in
-    let q = ignored .before .before .before .before .args .q .now in
-    rw (
+    λ q. rw (
       sym (ignored .before .has-switch .ensures) ∙ ignored .if1 .left,
       sym (partial .before .is-denied-partial .ensures) ∙ partial .if2 .left,
       sym (denied .before .is-denied .ensures q) ∙ denied .if3 .left,

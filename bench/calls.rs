@@ -1,13 +1,14 @@
 // Times query, check and request: Rattle's static library, whole calls with the
 // memory test and resolving, beside the Rust's own functions on a resolved
 // descriptor; and linked check and request beside the plain ones. Both sides have
-// the same tables and paths, in one run. bench/run builds and runs it.
+// the same tables and paths, in one run. A scan, which reads each byte of a table
+// once and does nothing else, is the limit. bench/run builds and runs it.
 //
 //   calls CALL                              a table of times and ratios
 //   calls CALL SIDE ENTRIES CASE REPEATS    only runs one side's calls, for counting instructions
 //
 // The sides of query, check and request are rust and rattle, those of linked-check
-// and linked-request plain and linked.
+// and linked-request plain and linked, those of scan bytes and blocks.
 
 use std::hint::black_box;
 use std::time::Instant;
@@ -116,11 +117,8 @@ impl Memory {
 
     // From here on the operator is asked, and allows.
     fn let_ask(&mut self) {
-        let used = unsafe {
-            assert_eq!(permissions_switches(self.table.as_mut_ptr(), self.table.len(), 16), 0);
-            permissions_used(self.table.as_ptr(), self.table.len())
-        };
-        self.before = self.table[..usize::try_from(used).expect("a table")].to_vec();
+        assert_eq!(unsafe { permissions_switches(self.table.as_mut_ptr(), self.table.len(), 16) }, 0);
+        self.before = self.used().to_vec();
         self.answer = 1;
     }
 
@@ -181,6 +179,21 @@ impl Memory {
     fn linked_request(&mut self, path: &str) -> i32 {
         self.linked_ask(permissions_linked_request, path)
     }
+
+    fn used(&self) -> &[u8] {
+        let used = unsafe { permissions_used(self.table.as_ptr(), self.table.len()) };
+        &self.table[..usize::try_from(used).expect("a table")]
+    }
+
+    // The table's bytes one after the other: a sum in which each hangs on those before.
+    fn scan_bytes(&mut self, _path: &str) -> i32 {
+        self.before.iter().fold(0u32, |sum, byte| sum.rotate_left(1) ^ u32::from(*byte)) as i32
+    }
+
+    // The same bytes, as many at a time as the compiler takes.
+    fn scan_blocks(&mut self, _path: &str) -> i32 {
+        i32::from(self.before.iter().fold(0u8, |sum, byte| sum ^ byte))
+    }
 }
 
 // Entries as a plant has them: scripts, logs, set points and run hours of its
@@ -240,6 +253,12 @@ fn case(name: &str, count: usize) -> Case {
             let path = entries[0].1.replace("000", "zzz");
             Case { entries, paths: vec![path], is_asked: false }
         }
+        // every entry lies below the path, so that each is compared to the path's end
+        "below" => {
+            let entries = worst(count);
+            let path = entries[0].1.replace("/000", "");
+            Case { entries, paths: vec![path], is_asked: false }
+        }
         // the paths lie below no entry, and the operator is asked about each
         "asked" => {
             let entries = realistic(count);
@@ -280,6 +299,15 @@ fn rattle_side(case: &Case, call: fn(&mut Memory, &str) -> i32) -> Side {
         memory.let_ask();
     }
     Side::Rattle { memory, paths: case.paths.clone(), call }
+}
+
+// A side that only reads the bytes of the case's table.
+fn scan_side(case: &Case, call: fn(&mut Memory, &str) -> i32) -> Side {
+    let mut side = rattle_side(case, call);
+    if let Side::Rattle { memory, .. } = &mut side {
+        memory.before = memory.used().to_vec();
+    }
+    side
 }
 
 impl Side {
@@ -337,6 +365,7 @@ fn sides(name: &str, case: &Case) -> [Side; 2] {
         "request" => [rust_side(case, read::measured::request), rattle_side(case, Memory::request)],
         "linked-check" => [rattle_side(case, Memory::check), rattle_side(case, Memory::linked_check)],
         "linked-request" => [rattle_side(case, Memory::request), rattle_side(case, Memory::linked_request)],
+        "scan" => return [scan_side(case, Memory::scan_bytes), scan_side(case, Memory::scan_blocks)],
         other => panic!("no call {other}"),
     };
     let [first, second] = &mut sides;
@@ -349,7 +378,7 @@ fn sides(name: &str, case: &Case) -> [Side; 2] {
 
 // The sizes of the tables. A call that inserts a path must find room in the largest.
 fn sizes(name: &str) -> [usize; 3] {
-    if name == "query" || name == "check" { [40, 200, 256] } else { [40, 200, 240] }
+    if matches!(name, "query" | "check" | "scan") { [40, 200, 256] } else { [40, 200, 240] }
 }
 
 fn main() {
@@ -358,7 +387,7 @@ fn main() {
     if let [_, side, entries, case_name, repeats] = words.as_slice() {
         let [mut first, mut second] = sides(name, &case(case_name, entries.parse().expect("a number of entries")));
         let side = match side.as_str() {
-            "rust" | "plain" => &mut first,
+            "rust" | "plain" | "bytes" => &mut first,
             _ => &mut second,
         };
         side.run(repeats.parse().expect("a number of repeats"));
@@ -366,11 +395,17 @@ fn main() {
     }
     let plain = name.strip_prefix("linked-");
     match plain {
+        None if name == "scan" => println!("| entries | paths | byte by byte | in blocks | blocks / bytes |"),
         None => println!("| entries | paths | Rust `{name}` | Rattle, whole call | Rattle / Rust |"),
         Some(plain) => println!("| entries | paths | `{plain}` | linked | linked / plain |"),
     }
     println!("|---|---|---|---|---|");
-    for case_name in &["realistic", "worst", "asked", "longest"][..if plain.is_some() { 4 } else { 2 }] {
+    let cases: &[&str] = match plain {
+        None if name == "scan" => &["realistic", "worst"],
+        None => &["realistic", "worst", "below"],
+        Some(_) => &["realistic", "worst", "asked", "longest"],
+    };
+    for case_name in cases {
         for entries in sizes(name) {
             let case = case(case_name, entries);
             let [first, second] = least(&mut sides(name, &case)).map(|time| time / case.paths.len() as f64);

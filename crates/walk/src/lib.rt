@@ -29,19 +29,19 @@ pub enum ModeRead {
 }
 
 // What one comparison tells of an entry's path: whether it is a prefix of the query's, and whether that is a prefix of it.
-pub struct Met {
+pub(crate) struct Met {
     pub above: bool,
     pub below: bool,
 }
 
 // The kind of the first match, if there is one.
-pub enum FirstMatch {
+pub(crate) enum FirstMatch {
     Nothing,
     Match(Kind),
 }
 
 // What was seen of the entries read so far: the first match, and whether a partial denial was met.
-pub struct Seen {
+pub(crate) struct Seen {
     pub first: FirstMatch,
     pub partial: bool,
 }

@@ -2,10 +2,10 @@
 use Prim.Native.Nat.{ℕ, _+_, _%_, _≤_, _<_}
 use mathlib.Core.Path.{_≡_, refl, sym, ap, _∙_, subst₂}
 use mathlib.Core.List.{List, [], _∷_, _++_, append-assoc}
-use mathlib.Core.Bool.{Bool, true, false, _&&_, false≢true}
+use mathlib.Core.Bool.{Bool, true, false, _&&_, not-eq-not, false≢true}
 use native.Mathlib.Omega.{arith}
 use native.Mathlib.Decide.{decLt}
-use lib.ListN.{length, getD, length-append, List·getD-append}
+use lib.ListN.{length, getD, List·getD-append}
 use borrow.Author.Tests.{eq-eqb, eqb-true, lt-ltb, le-ltb}
 use Rattle.paths.specs.Components.{same, components, slash, slashed, spell}
 use Rattle.paths.specs.Resolving.{isResolved}
@@ -13,6 +13,7 @@ use Rattle.paths.specs.Relations.{leads, isPrefix}
 use Rattle.paths.specs.Relating.{sameByte, sameEight, SameBytes, lesserLength, TellsApart}
 use Rattle.paths.proofs.ComponentLaws.{and-left, and-right, and-both, same-eq}
 use Rattle.paths.proofs.ResolvingLaws.{spell-components}
+use Rattle.paths.proofs.RelationLaws.{prefix-length}
 
 -- ---- the lesser length
 
@@ -116,29 +117,20 @@ spell-front (c ∷ cs) (d ∷ ds) l = slashed-front (c ∷ cs) (d ∷ ds) l
 front-same : {p q : List ℕ} → Front p q → SameBytes p q 0 (length p)
 front-same {p} f = record { bytes = λ k h l. rw (f .whole) (sym (List·getD-append p (f .rest) 0 k l)) }
 
-front-length : {p q : List ℕ} → Front p q → length p ≤ length q
-front-length {p} {q} f = omega (arith, ap length (f .whole), length-append p (f .rest))
-
 prefix-front : (p q : List ℕ) → isResolved p ≡ true → isResolved q ≡ true → isPrefix p q ≡ true → Front p q
 unfolding isPrefix
 prefix-front p q rp rq h =
     let f : Front (spell (components p)) (spell (components q)) = spell-front (components p) (components q) h in
     subst₂ Front (spell-components p rp) (spell-components q rq) f
 
-untrue : (t : Bool) → (t ≡ true → ⊥) → t ≡ false
-untrue true f = absurd (f refl)
-untrue false f = refl
-
 -- where the quick test tells two resolved paths apart, neither is a prefix of the other
 module _ (p q : List ℕ) (rp : isResolved p ≡ true) (rq : isResolved q ≡ true) {r : Bool} (T : TellsApart p q r) (told : r ≡ true) where
   pub apart-prefix : isPrefix p q ≡ false
-  apart-prefix = untrue (isPrefix p q) (λ h.
-      let f = prefix-front p q rp rq h in
-      let n = lesser p q .first (front-length f) in
-      T .apart told (same-fewer 0 _ (length p) _ (omega arith) (omega arith) (front-same f)))
+  apart-prefix = not-eq-not {b = false} .0 (λ h.
+      let n = lesser p q .first (prefix-length p q rp rq h) in
+      T .apart told (same-fewer 0 _ (length p) _ (omega arith) (omega arith) (front-same (prefix-front p q rp rq h))))
 
   pub apart-extension : isPrefix q p ≡ false
-  apart-extension = untrue (isPrefix q p) (λ h.
-      let f = prefix-front q p rq rp h in
-      let n = lesser p q .second (front-length f) in
-      T .apart told (record { bytes = λ k i j. sym (front-same f .bytes k (omega arith) (omega arith)) }))
+  apart-extension = not-eq-not {b = false} .0 (λ h.
+      let n = lesser p q .second (prefix-length q p rq rp h) in
+      T .apart told (record { bytes = λ k i j. sym (front-same (prefix-front q p rq rp h) .bytes k (omega arith) (omega arith)) }))

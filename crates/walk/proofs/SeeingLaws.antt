@@ -3,7 +3,7 @@ use Prim.Native.Nat.{ℕ}
 use mathlib.Core.Path.{_≡_, refl, sym, ap, _∙_}
 use mathlib.Core.List.{List, [], _∷_, _++_, append-nil, append-assoc}
 use mathlib.Core.Option.{Option, none, some}
-use mathlib.Core.Bool.{Bool, true, false, _&&_, _||_, cond, true≢false, false≢true}
+use mathlib.Core.Bool.{Bool, true, false, _&&_, _||_, cond, or-false, or-assoc, true≢false, false≢true}
 use lib.IntN.{ℤ}
 use lib.ListN.{length}
 use lib.Dec.{leb}
@@ -47,10 +47,6 @@ match-kind D p q = refl
 match-kind P p q = refl
 match-kind I p q = refl
 
-or-false : (b : Bool) → b || false ≡ b
-or-false true = refl
-or-false false = refl
-
 partial-kind : (partial : Bool) (k : Kind) (below : Bool) → partialBy partial k below ≡ partial || (isFlag k && below)
 unfolding isFlag
 partial-kind partial G below = sym (or-false partial)
@@ -83,14 +79,10 @@ unfolding firstMatch
 first-append q [] rest = refl
 first-append q (e ∷ read) rest = first-by (matches q e) e (firstMatch q read) (firstMatch q rest) (first-append q read rest)
 
-any-by : (b x y : Bool) {x′ : Bool} → x′ ≡ x || y → b || x′ ≡ (b || x) || y
-any-by true x y h = refl
-any-by false x y h = h
-
 any-append : (f : Entry → Bool) (read rest : List Entry) → any f (read ++ rest) ≡ any f read || any f rest
 unfolding any
 any-append f [] rest = refl
-any-append f (e ∷ read) rest = any-by (f e) (any f read) (any f rest) (any-append f read rest)
+any-append f (e ∷ read) rest = ap (λ (b : Bool). f e || b) (any-append f read rest) ∙ sym (or-assoc (f e) (any f read) (any f rest))
 
 -- ---- one entry more
 
@@ -203,9 +195,6 @@ unfolding kindOfMatch byMatch
 settled-stays t mode d none later now then s h = absurd (false≢true s)
 settled-stays t mode d (some e) later now then s h = stays (e .kind) mode now then s h
 
-or-true : (a b : Bool) → a ≡ true → a || b ≡ true
-or-true a b e = rw e
-
 -- ---- the state
 
 module _ (t : Table) (mode : AllowPartial) (q : List ℕ) {s : Seen} (W : Walks (t .entries) mode q s) where
@@ -214,7 +203,7 @@ module _ (t : Table) (mode : AllowPartial) (q : List ℕ) {s : Seen} (W : Walks 
       → byMatch t mode (path q) (firstMatch q (W .read)) (s .partial) ≡ byMatch t mode (path q) (firstMatch q (W .read ++ W .rest)) (any (isFlagBelow q) (W .read ++ W .rest))
   same-state true e =
       rw (first-append q (W .read) (W .rest), any-append (isFlagBelow q) (W .read) (W .rest))
-      (settled-stays t mode (path q) (firstMatch q (W .read)) (firstMatch q (W .rest)) (s .partial) _ (rw (← W .sees .first) e) (λ h. rw (← W .sees .partial) (or-true _ _ h)))
+      (settled-stays t mode (path q) (firstMatch q (W .read)) (firstMatch q (W .rest)) (s .partial) _ (rw (← W .sees .first) e) (λ h. rw (← W .sees .partial, h)))
   same-state false e = rw (W .enough e, append-nil (W .read), W .sees .partial)
 
   pub walks-decides : Decides t mode (path q) s

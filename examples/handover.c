@@ -107,7 +107,7 @@ static int show(const char *came, int32_t result)
 
     if (stop("arrival", result) || stop("owed", permissions_owed(last, highest, &owed)))
         return 1;
-    printf("%-7s%-15s%-6lu%s\n", came, permissions_arrival_name(result), (unsigned long)last, owed == 0 ? "nothing" : "some");
+    printf("%-7s%-15s%-6lu%lu\n", came, permissions_arrival_name(result), (unsigned long)last, (unsigned long)owed);
     return 0;
 }
 
@@ -172,7 +172,8 @@ static int over_a_bad_link(void)
            step(YES, "/srv/log", "5") ||
            step(NO, "/srv/keys", "626") ||
            step(REVOKE, "/home", "7") ||
-           puts("\n  Applied: it was the next, and is done. Early: one before it is missing. Repeat: it was done before.") < 0;
+           puts("\n  Applied: it was the next, and is done. Early: one before it is missing. Repeat: it was done before."
+                "\n  What is owed goes from what the standby has to the highest number that came.") < 0;
 }
 
 /* ---- a new standby */

@@ -54,7 +54,7 @@ extern "C" {
 #define PERMISSIONS_VERSION_MAJOR 0
 #define PERMISSIONS_VERSION_MINOR 5
 #define PERMISSIONS_VERSION_PATCH 0
-#define PERMISSIONS_VERSION "0.5.0"
+#define PERMISSIONS_VERSION "0.6.0"
 
 /* The compiler warns where the result of a call is dropped, if it can. */
 #if defined(__GNUC__)
@@ -433,10 +433,10 @@ PERMISSIONS_MUST_USE
 int32_t permissions_arrive(void *memory, size_t memory_size, uint64_t *last, uint64_t *highest,
                            const uint32_t *record, size_t record_size);
 
-/* How many changes the standby has heard of and not applied.
+/* How many changes the standby has heard of and not applied: those from last + 1 to the highest number that came.
  *   last, highest   the standby's numbers
- *   owed            0 exactly if highest equals last; else at least 1 and at most highest - last, and which of these it is
- *                   is not said: take it as "some"
+ *   owed            highest - last; 0 means that every record that came is done. A change that was lost is counted once a
+ *                   later one has come, and not before
  * Result: 0; refusal 1 where last is above highest, and then owed is 0. */
 PERMISSIONS_MUST_USE
 int32_t permissions_owed(uint64_t last, uint64_t highest, uint64_t *owed);

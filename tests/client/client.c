@@ -388,7 +388,7 @@ static void show_arrival(int32_t result, uint64_t last, uint64_t highest)
         printf("%s", permissions_arrival_name(result));
     printf(": last %u, highest %u, ", (unsigned)last, (unsigned)highest);
     if (permissions_owed(last, highest, &owed) == 0)
-        puts(owed == 0 ? "nothing owed" : "some owed");
+        printf("%u owed\n", (unsigned)owed);
     else
         puts("owed refused");
 }

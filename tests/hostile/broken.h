@@ -6,7 +6,7 @@ enum {
     FIRST_WITHOUT_MODEL = 59,
     LAST_WITHOUT_MODEL = 77,
     IMAGE_WITHOUT_MODEL = 127,
-    LAST_FAULT = 136
+    LAST_FAULT = 140
 };
 
 static unsigned long fault;
@@ -122,6 +122,10 @@ static void break_standby(int32_t result)
     case 72: if (arrives(result, REPEAT)) do_anyway(); break;                             /* a repeat applied */
     case 73: if (arrives(result, EARLY)) do_anyway(); break;                              /* an early one applied */
     case 74: if (owes()) set_long(NUMBER, 0); break;                                      /* nothing owed */
+    case 137: if (owes()) set_long(NUMBER, turn.had.highest); break;                      /* h owed */
+    case 138: if (owes()) set_long(NUMBER, turn.had.last); break;                         /* n owed */
+    case 139: if (owes()) set_long(NUMBER, turn.had.highest - turn.had.last - 1); break;  /* one less owed */
+    case 140: if (owes()) set_long(NUMBER, 1); break;                                     /* one owed, for any number */
     }
 }
 

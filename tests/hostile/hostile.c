@@ -1469,13 +1469,13 @@ static void follow_main(void)
     mains_followed++;
 }
 
-/* What is owed, whatever the model; more is not said. */
+/* What is owed, whatever the model. */
 static void hold_to_owed(void)
 {
-    uint64_t owed = long_in(NUMBER), most = turn.had.last < turn.had.highest ? turn.had.highest - turn.had.last : 0;
+    uint64_t owed = long_in(NUMBER), gap = turn.had.last < turn.had.highest ? turn.had.highest - turn.had.last : 0;
 
-    if (owed > most || (owed == 0) != (most == 0))
-        violation("owed %llu of %llu", (unsigned long long)owed, (unsigned long long)most);
+    if (owed != gap)
+        violation("owed %llu, not %llu", (unsigned long long)owed, (unsigned long long)gap);
 }
 
 static void run_owed(void)

@@ -31,6 +31,10 @@ enum {
     NONE_OWED,         /* nothing is owed, ever */
     ONE_OWED,          /* something is owed, always */
     TOO_MUCH_OWED,     /* one more than h - n is owed */
+    ONE_LESS_OWED,     /* one less */
+    HIGHEST_OWED,      /* h */
+    LAST_OWED,         /* n */
+    SOME_OWED,         /* 1, for any number */
     SENT_OTHER_KIND,   /* an insert is recorded as one of another kind */
     SENT_NOTHING,      /* an insert takes a number and has no record */
     SENT_UNNUMBERED,   /* an insert raises no number */
@@ -340,6 +344,10 @@ int32_t __wrap_permissions_owed(uint64_t last, uint64_t highest, uint64_t *owed)
     case NONE_OWED: *owed = 0; break;
     case ONE_OWED: *owed = 1; break;
     case TOO_MUCH_OWED: *owed = highest == last ? 0 : highest - last + 1; break;
+    case ONE_LESS_OWED: *owed = highest == last ? 0 : highest - last - 1; break;
+    case HIGHEST_OWED: *owed = highest == last ? 0 : highest; break;
+    case LAST_OWED: *owed = highest == last ? 0 : last; break;
+    case SOME_OWED: *owed = highest == last ? 0 : 1; break;
     default: break;
     }
     return result;

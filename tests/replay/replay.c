@@ -477,7 +477,7 @@ static void print_numbers(const struct replay *replay)
     if (result < 0)
         printf("refused%d", (int)-result);
     else
-        fputs(owed == 0 ? "0" : "some", stdout);
+        printf("%" PRIu64, owed);
 }
 
 /* ---- calls ----

@@ -5,6 +5,7 @@ pub mod SequenceLaws
 pub mod JudgedLaws
 pub mod MainLaws
 pub mod BytesLaws
+pub mod OwedLaws
 pub mod StandbyLaws
 pub mod Handover
 pub mod StepLaws

@@ -245,6 +245,7 @@ module _ (L : Lent) where
     arrivals = followed .arrivals;
     n = refl;
     h = refl;
+    report = refl;
   }
     where
       first-insert : At 0 0 0 → At 1 1 1

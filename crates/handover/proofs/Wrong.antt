@@ -1,7 +1,7 @@
--- Each wrong arrival of `specs/Wrong.antt` breaks the claim on a main that sets switches twice and writes an image after each.
-use Prim.Native.Nat.{ℕ, _≤_}
+-- Each wrong arrival and report of `specs/Wrong.antt` breaks the claim on a main that sets switches twice and writes an image after each.
+use Prim.Native.Nat.{ℕ, _+_, _≤_}
 use mathlib.Core.Path.{_≡_, refl, sym, ap, _∙_}
-use mathlib.Core.List.{List, [], _∷_, List·Memᴰ, List·Memᴰ·head, List·Memᴰ·tail, Sublistᴰ·cons-cons, Sublistᴰ·slnil}
+use mathlib.Core.List.{List, [], _∷_, List·Memᴰ, List·Memᴰ·head, List·Memᴰ·tail, List·Memᴰ·eq-of-singleton, Sublistᴰ·cons-cons, Sublistᴰ·slnil}
 use native.Mathlib.Omega.{arith}
 use lib.ListN.{take}
 use Rattle.refusals.specs.declared.Refusal.the-variants.{NoTable}
@@ -14,6 +14,7 @@ use Rattle.table.specs.Carrying.{linked, usedUp, carryCause, outcomeOf}
 use Rattle.table.specs.Calls.{recordSpace, recordRoom, knownSwitches, carried, switchesCall}
 use Rattle.table.specs.Calls as table-calls
 use Rattle.records.specs.Records.{
+  Change,
   actNumber,
   actPart,
   changeWords,
@@ -33,6 +34,9 @@ use Rattle.link.proofs.SendingLaws.{a-room}
 use Rattle.standby.specs.declared.Numbers.{Numbers}
 use Rattle.standby.specs.declared.Arrival.{Arrival}
 use Rattle.standby.specs.declared.Arrival.the-variants.{Applied, Repeat, Early, Taken, Refused}
+use Rattle.standby.specs.declared.Owed.{Owed}
+use Rattle.standby.specs.declared.Owed.the-variants.{Changes}
+use Rattle.standby.specs.Owing.{owedOf, owing, Owes}
 use Rattle.standby.specs.Arriving.{wellFormed, higher, applied, passedBy, taken, arrival, answerIn, actsIn, numbersIn, Arrives}
 use Rattle.standby.specs.Loading.{takenOf, loading, answerOf, numbersOf, Loads}
 use Rattle.handover.specs.Handover.{
@@ -43,6 +47,7 @@ use Rattle.handover.specs.Handover.{
   imageSent,
   allMessageWords,
   Promise,
+  Report,
   Standby,
   reach,
   judgedBy,
@@ -59,6 +64,8 @@ use Rattle.handover.specs.Wrong.{
   earlyToNext,
   repeatRaises,
   keepsH,
+  earlyKeepsH,
+  raisesBeyond,
   doesAgain,
   LoadBy,
   takesAbove,
@@ -67,6 +74,12 @@ use Rattle.handover.specs.Wrong.{
   keepsTable,
   keepsN,
   LoadsKeepingH,
+  Counting,
+  ReportBy,
+  saysH,
+  saysN,
+  saysOneLess,
+  saysOne,
   RuledOut,
 }
 use Rattle.handover.proofs.MainLaws.{main-is}
@@ -92,8 +105,8 @@ use Rattle.handover.proofs.StepLaws.{
   fresh-bytes,
 }
 
--- the same made with `taken` and `takesAbove` is demand 3
-pub right : Claim (By taken) (LoadBy takesAbove) ≡ Demand3
+-- the same made with `taken`, `takesAbove` and `owedOf` is demand 3
+pub right : Claim (By taken) (LoadBy takesAbove) (ReportBy owedOf) ≡ Demand3
 unfolding arrival loading
 right = refl
 
@@ -167,16 +180,26 @@ abbrev After : Promise → Promise → List Message → List Arrival → ℕ →
 After Arriving Loading came answers switches n h =
     Followed Arriving Loading sent came answers (record { entries = []; switches = switches; marks = 0 }) (record { n = n; h = h })
 
-module _ {Arriving Loading : Promise} (claim : Claim Arriving Loading) {came : List Message} {answers : List Arrival} {switches n h : ℕ}
-    (F : After Arriving Loading came answers switches n h) where
+module _ {Arriving Loading : Promise} {came : List Message} {answers : List Arrival} {switches n h : ℕ} (F : After Arriving Loading came answers switches n h) where
   abbrev standby : Standby
   standby = record { memory = F .memory; numbers = record { n = n; h = h } }
 
-  told : Handover (run .main) twice sent (allMessageWords sent) standby came answers
-  told = claim (run .main) twice sent (allMessageWords sent) standby came answers (run .calls) (F .arrivals)
+  reported : (Reporting : Report) → Claim Arriving Loading Reporting → (r : Owed) → Reporting (standby .numbers) r
+      → Handover (run .main) twice sent (allMessageWords sent) standby came answers r
+  reported Reporting claim r R = claim (run .main) twice sent (allMessageWords sent) standby came answers r (run .calls) (F .arrivals) R
 
-  switches-told : switches ≡ applyActs fresh (take n twice) .switches
-  switches-told = ap (λ (t : Table). t .switches) (sym (F .stands .table) ∙ told .table)
+  told : Claim Arriving Loading Owes → Handover (run .main) twice sent (allMessageWords sent) standby came answers (owing (standby .numbers))
+  told claim = reported Owes claim (owing (standby .numbers)) refl
+
+  switches-told : Claim Arriving Loading Owes → switches ≡ applyActs fresh (take n twice) .switches
+  switches-told claim = ap (λ (t : Table). t .switches) (sym (F .stands .table) ∙ told claim .table)
+
+  -- how much the report says, where it says k
+  owed-told : (counting : Counting) → Claim Arriving Loading (ReportBy counting) → (k : ℕ) → ReportBy counting (standby .numbers) (Changes k) → k + n ≡ h
+  owed-told counting claim k e = let H = reported (ReportBy counting) claim (Changes k) e in let same : k ≡ H .owed = number (H .report) in rw (← same) at (H .exact)
+    where
+      number : {j l : ℕ} → Changes j ≡ Changes l → j ≡ l
+      number e = cc
 
 pub ruled-out : RuledOut
 unfolding firstCause andThen unless applyAct actOverflows isAct applyActs carryCause usedUp carried
@@ -184,21 +207,34 @@ unfolding firstCause andThen unless applyAct actOverflows isAct applyActs carryC
     wellFormed higher applied passedBy taken arrival answerIn actsIn numbersIn
     takenOf loading answerOf numbersOf tableAfter every pathBytes present any marksOf isTable
     reach judgedBy judgedFrom
-    countsRest inventsN earlyToNext repeatRaises keepsH doesAgain takesAny takesNone keepsTable keepsN allFit
+    countsRest inventsN earlyToNext repeatRaises keepsH earlyKeepsH raisesBeyond doesAgain takesAny takesNone keepsTable keepsN allFit
 ruled-out = record {
-  counts-rest = λ claim. let z : _≡_ {A = ℕ} 1 2 = switches-told claim counted in omega arith;
-  invents-n = λ claim. let z : _≡_ {A = ℕ} 0 2 = switches-told claim invented in omega arith;
+  counts-rest = λ claim. let z : _≡_ {A = ℕ} 1 2 = switches-told counted claim in omega arith;
+  invents-n = λ claim. let z : _≡_ {A = ℕ} 0 2 = switches-told invented claim in omega arith;
   early-to-next = λ claim.
-      let z = told claim delayed .greatest 1 (record { from = omega arith; made = omega arith; arrived = Sublistᴰ·cons-cons refl Sublistᴰ·slnil }) in
+      let z = told delayed claim .greatest 1 (record { from = omega arith; made = omega arith; arrived = Sublistᴰ·cons-cons refl Sublistᴰ·slnil }) in
       omega arith;
-  repeat-raises = λ claim. let z : _≡_ {A = ℕ} 1 2 = switches-told claim raised in omega arith;
-  keeps-h = λ claim. told claim stopped .unrefused NoTable (List·Memᴰ·tail (List·Memᴰ·head refl));
-  does-again = λ claim. let z : _≡_ {A = ℕ} 1 2 = switches-told claim redone in omega arith;
-  takes-any = λ claim. let z : 2 ≤ 1 = told claim fallen .reached .from in omega arith;
-  takes-none = λ claim. let z : 1 ≤ 0 = told claim ignored .reached .from in omega arith;
-  keeps-table = λ claim. let z : _≡_ {A = ℕ} 0 1 = switches-told claim old in omega arith;
-  keeps-n = λ claim. let z : 1 ≤ 0 = told claim uncounted .reached .from in omega arith;
-  loads-keeping-h = λ claim. told claim stuck .unrefused NoTable (List·Memᴰ·tail (List·Memᴰ·head refl));
+  repeat-raises = λ claim. let z : _≡_ {A = ℕ} 1 2 = switches-told raised claim in omega arith;
+  keeps-h = λ claim. told stopped claim .unrefused NoTable (List·Memᴰ·tail (List·Memᴰ·head refl));
+  early-keeps-h = λ claim.
+      let H = told unmet claim in
+      let z : 2 ≤ 0 = H .none (omega (arith, H .exact)) _ (List·Memᴰ·head refl) in
+      omega arith;
+  raises-beyond = λ claim.
+      let H = told beyond claim in
+      let top = H .highest (omega (arith, H .exact)) in
+      let z : _≡_ {A = ℕ} 1 2 = sym (only-one (top .arrived)) ∙ top .number in
+      omega arith;
+  does-again = λ claim. let z : _≡_ {A = ℕ} 1 2 = switches-told redone claim in omega arith;
+  takes-any = λ claim. let z : 2 ≤ 1 = told fallen claim .reached .from in omega arith;
+  takes-none = λ claim. let z : 1 ≤ 0 = told ignored claim .reached .from in omega arith;
+  keeps-table = λ claim. let z : _≡_ {A = ℕ} 0 1 = switches-told old claim in omega arith;
+  keeps-n = λ claim. let z : 1 ≤ 0 = told uncounted claim .reached .from in omega arith;
+  loads-keeping-h = λ claim. told stuck claim .unrefused NoTable (List·Memᴰ·tail (List·Memᴰ·head refl));
+  says-h = λ claim. let z : _≡_ {A = ℕ} 2 1 = owed-told done saysH claim 1 refl in omega arith;
+  says-n = λ claim. let z : _≡_ {A = ℕ} 2 1 = owed-told done saysN claim 1 refl in omega arith;
+  says-one-less = λ claim. let z : _≡_ {A = ℕ} 1 2 = owed-told early saysOneLess claim 1 refl in omega arith;
+  says-one = λ claim. let z : _≡_ {A = ℕ} 1 2 = owed-told early saysOne claim 1 refl in omega arith;
 }
   where
     -- n is 2, and change 2 is not done
@@ -220,6 +256,20 @@ ruled-out = record {
     -- n is above h
     stopped : After (By keepsH) Loads (change 1 ∷ change 1 ∷ []) (Applied ∷ Refused NoTable ∷ []) 1 1 0
     stopped = followed-record keepsH (followed-record keepsH (followed-fresh is-fresh) _ change-one refl) _ change-one refl
+
+    -- change 2 arrived, and h is 0
+    unmet : After (By earlyKeepsH) Loads (change 2 ∷ []) (Early ∷ []) 0 0 0
+    unmet = followed-record earlyKeepsH (followed-fresh is-fresh) _ change-two refl
+
+    -- change 1 alone arrived, and h is 2
+    beyond : After (By raisesBeyond) Loads (change 1 ∷ []) (Applied ∷ []) 1 1 2
+    beyond = followed-record raisesBeyond (followed-fresh is-fresh) _ change-one refl
+
+    only-one : {c : Change} → List·Memᴰ (changed c) (change 1 ∷ []) → c .number ≡ 1
+    only-one {c} m =
+        let e : changed c ≡ change 1 = List·Memᴰ·eq-of-singleton m in
+        let same : c ≡ record { number = 1; act = setSwitches 1 } = cc in
+        ap (λ (d : Change). d .number) same
 
     -- n is 2, and change 1 is done last
     redone : After (By doesAgain) Loads (image (imaged 2) ∷ change 1 ∷ []) (Taken ∷ Applied ∷ []) 1 2 2
@@ -251,3 +301,11 @@ ruled-out = record {
     -- n is above h
     stuck : After Arrives LoadsKeepingH (image (imaged 1) ∷ change 1 ∷ []) (Taken ∷ Refused NoTable ∷ []) 1 1 0
     stuck = followed-record taken (unraised (followed-fresh is-fresh)) _ change-one refl
+
+    -- n and h are 1
+    done : After Arrives Loads (change 1 ∷ []) (Applied ∷ []) 1 1 1
+    done = followed-record taken (followed-fresh is-fresh) _ change-one refl
+
+    -- n is 0 and h is 2
+    early : After Arrives Loads (change 2 ∷ []) (Early ∷ []) 0 0 2
+    early = followed-record taken (followed-fresh is-fresh) _ change-two refl

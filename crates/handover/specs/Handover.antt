@@ -1,9 +1,10 @@
 -- Demand 3, whole. Scope, "Handover, at the top", and "A table for a standby that joins late".
 --
 -- A main goes from a fresh table and the number 0 through any list of its calls, images among them. A standby goes from a fresh table and the numbers 0
--- and 0 through any list of arrivals, each of one of the main's records or images, lost, repeated and reordered as it may be. `Handover` says what then
--- holds, at whatever point the standby takes over. Each step is a call's own promise, the one that its `ensures` cites, and is lent what the last one left.
-use Prim.Native.Nat.{ℕ, _+_, _≤_}
+-- and 0 through any list of arrivals, each of one of the main's records or images, lost, repeated and reordered as it may be, and reports what it is owed.
+-- `Handover` says what then holds, at whatever point the standby takes over. Each step is a call's own promise, the one that its `ensures` cites, and is lent
+-- what the last one left.
+use Prim.Native.Nat.{ℕ, _+_, _≤_, _<_}
 use mathlib.Core.Path.{_≡_}
 use mathlib.Core.List.{List, [], _∷_, _++_, List·Memᴰ, Sublistᴰ}
 use mathlib.Core.Bool.{true, cond}
@@ -38,8 +39,11 @@ use Rattle.link.specs.Imaging.{imageCall, WritesImage, wroteBy}
 use Rattle.standby.specs.declared.Numbers.{Numbers}
 use Rattle.standby.specs.declared.Arrival.{Arrival}
 use Rattle.standby.specs.declared.Arrival.the-variants.{Refused}
+use Rattle.standby.specs.declared.Owed.{Owed}
+use Rattle.standby.specs.declared.Owed.the-variants.{Changes}
 use Rattle.standby.specs.Arriving.{Arrives}
 use Rattle.standby.specs.Loading.{Loads}
+use Rattle.standby.specs.Owing.{Owes}
 
 -- memory with a fresh table in it
 pub record IsFresh (m : List ℕ) : Type 0 where
@@ -208,6 +212,23 @@ pub record Reached (acts : List Act) (came : List Message) (k : ℕ) : Type 0 wh
   pub start : Start came base later
   pub sequence : InSequence acts base (changesIn later) k
 
+-- ---- what is owed
+
+-- what a report may promise: the standby's numbers, and what is said of them
+abbrev pub Report : Type 1
+Report = Numbers → Owed → Type 0
+
+-- every record that arrived was of a change up to k
+abbrev pub UpTo : ℕ → List Message → Type 0
+UpTo k came = (c : Change) → List·Memᴰ (changed c) came → c .number ≤ k
+
+-- k is the highest number in a record that arrived
+pub record IsHighest (k : ℕ) (came : List Message) : Type 0 where
+  pub change : Change
+  pub arrived : List·Memᴰ (changed change) came
+  pub number : change .number ≡ k
+  pub most : UpTo k came
+
 -- ---- the claim
 
 -- an image of the main's table after the change whose number it has
@@ -215,7 +236,8 @@ pub record IsImageOf (acts : List Act) (i : Image) : Type 0 where
   pub made : i .number ≤ length acts
   pub table : i .table ≡ applyActs fresh (take (i .number) acts)
 
-pub record Handover (a : Main) (acts : List Act) (sent : List Message) (wrote : List ℕ) (s : Standby) (came : List Message) (answers : List Arrival) : Type 0 where
+pub record Handover (a : Main) (acts : List Act) (sent : List Message) (wrote : List ℕ) (s : Standby) (came : List Message) (answers : List Arrival) (r : Owed)
+    : Type 0 where
   -- 1: the standby's table is the main's after change n, a fresh one with changes 1 to n done in turn: entries, their sequence, switches and marks
   pub holding : holds (s .memory) ≡ true
   pub table : tableOf (s .memory) ≡ applyActs fresh (take (s .numbers .n) acts)
@@ -238,14 +260,24 @@ pub record Handover (a : Main) (acts : List Act) (sent : List Message) (wrote : 
   pub records : changesIn sent ≡ changes acts
   pub images : (i : Image) → List·Memᴰ (image i) sent → IsImageOf acts i
   pub written : wrote ≡ allMessageWords sent
+  -- 6: what is owed is exactly h − n, all of it changes that the main has made. It is 0 exactly if every record that arrived was of a change up to n, and else h
+  -- is the highest that arrived
+  pub owed : ℕ
+  pub report : r ≡ Changes owed
+  pub exact : owed + s .numbers .n ≡ s .numbers .h
+  pub made : s .numbers .h ≤ length acts
+  pub none : owed ≡ 0 → UpTo (s .numbers .n) came
+  pub only : UpTo (s .numbers .n) came → owed ≡ 0
+  pub highest : 0 < owed → IsHighest (s .numbers .h) came
 
--- for every list of calls and every list of arrivals of what they sent
-abbrev pub Claim : Promise → Promise → Type 0
-Claim Arriving Loading = (a : Main) (acts : List Act) (sent : List Message) (wrote : List ℕ) (s : Standby) (came : List Message) (answers : List Arrival)
+-- for every list of calls, every list of arrivals of what they sent, and a report after them
+abbrev pub Claim : Promise → Promise → Report → Type 0
+Claim Arriving Loading Reporting = (a : Main) (acts : List Act) (sent : List Message) (wrote : List ℕ) (s : Standby) (came : List Message) (answers : List Arrival) (r : Owed)
     → Calls a acts sent wrote
     → Arrivals Arriving Loading sent s came answers
-    → Handover a acts sent wrote s came answers
+    → Reporting (s .numbers) r
+    → Handover a acts sent wrote s came answers r
 
 -- demand 3
 abbrev pub Demand3 : Type 0
-Demand3 = Claim Arrives Loads
+Demand3 = Claim Arrives Loads Owes

@@ -25,8 +25,10 @@ use Rattle.records.specs.Records.{numbered, allWords}
 use Rattle.images.specs.Images.{Image}
 use Rattle.standby.specs.declared.Arrival.{Arrival}
 use Rattle.standby.specs.declared.Arrival.the-variants.{Applied, Repeat, Early, Taken}
+use Rattle.standby.specs.declared.Owed.the-variants.{Changes}
 use Rattle.standby.specs.Arriving.{Arrives}
 use Rattle.standby.specs.Loading.{Loads}
+use Rattle.standby.specs.Owing.{Owes}
 use Rattle.handover.specs.Handover.{
   IsFresh,
   Main,
@@ -164,3 +166,4 @@ pub record Witness : Type 0 where
   pub arrivals : Arrivals Arrives Loads sent standby came answers
   pub n : standby .numbers .n ≡ 4
   pub h : standby .numbers .h ≡ 5
+  pub report : Owes (standby .numbers) (Changes 1)

@@ -1,22 +1,25 @@
--- Wrong arrivals of records and of images, each of which the claim rules out by itself. Scope, "How firm a contract is", "Handover, at the top", and "A table
--- for a standby that joins late".
+-- Wrong arrivals of records and of images, and wrong reports of what is owed, each of which the claim rules out by itself. Scope, "How firm a contract is",
+-- "Handover, at the top", and "A table for a standby that joins late".
 -- An h raised by a refused record cannot show in the claim, since no arrival of the claim is refused: the arrival's own promise rules it out. Nor can an image
 -- that is taken again at n itself, since it leaves the same table and numbers.
-use Prim.Native.Nat.{ℕ, _+_}
+use Prim.Native.Nat.{ℕ, _+_, _-_}
 use mathlib.Core.Path.{_≡_}
 use mathlib.Core.List.{List, [], _∷_}
 use mathlib.Core.Option.{Option, none, some}
 use mathlib.Core.Bool.{cond}
 use lib.Dec.{leb, ltb, eqb}
+use Rattle.refusals.specs.declared.Refusal.the-variants.{NoTable}
 use Rattle.refusals.specs.Refusals.{Result, ok, andThen}
 use Rattle.table.specs.Tables.{Table}
 use Rattle.records.specs.Records.{Change, readChange}
 use Rattle.images.specs.Images.{Image, readImage}
 use Rattle.standby.specs.declared.Numbers.{Numbers}
 use Rattle.standby.specs.declared.Arrival.the-variants.{Applied, Repeat, Early}
+use Rattle.standby.specs.declared.Owed.the-variants.{Changes, Refused}
 use Rattle.standby.specs.Arriving.{standbyIn, wellFormed, Taken, passedBy, taken, Comes, Arrives}
 use Rattle.standby.specs.Loading.{isImage, takenOf, Brings, Loads}
-use Rattle.handover.specs.Handover.{Promise, Claim}
+use Rattle.standby.specs.Owing.{Owes}
+use Rattle.handover.specs.Handover.{Promise, Report, Claim}
 
 -- ---- records
 
@@ -56,6 +59,16 @@ unfoldable pub keepsH : Taking
 keepsH t s c =
     andThen (taken t s c) (λ x.
     ok (record { answer = x .answer; acts = x .acts; numbers = record { n = x .numbers .n; h = s .h } }))
+
+-- an h that an early record does not raise
+unfoldable pub earlyKeepsH : Taking
+earlyKeepsH t s c = cond (ltb (s .n + 1) (c .number)) (ok (record { answer = Early; acts = []; numbers = s })) (taken t s c)
+
+-- an h above every number that arrived
+unfoldable pub raisesBeyond : Taking
+raisesBeyond t s c =
+    andThen (taken t s c) (λ x.
+    ok (record { answer = x .answer; acts = x .acts; numbers = record { n = x .numbers .n; h = x .numbers .h + 1 } }))
 
 -- a change at n or below, which an image brought, done once more
 unfoldable pub doesAgain : Taking
@@ -97,17 +110,49 @@ keepsN t s i = cond (ltb (s .n) (i .number)) (some (record { number = s .n; tabl
 abbrev pub LoadsKeepingH : Promise
 LoadsKeepingH m words s m′ s′ r = (x : Numbers) × Loads m words s m′ x r × (s′ ≡ record { n = x .n; h = s .h })
 
+-- ---- what is owed
+
+-- how much is said to be owed, where n is not above h
+abbrev pub Counting : Type 0
+Counting = Numbers → ℕ
+
+-- the report, with `counting` for how much; `owing` is the one with `owedOf`
+abbrev pub ReportBy : Counting → Report
+ReportBy counting s r = r ≡ cond (ltb (s .h) (s .n)) (Refused NoTable) (Changes (counting s))
+
+-- h in place of h − n
+abbrev pub saysH : Counting
+saysH s = s .h
+
+-- n in place of it
+abbrev pub saysN : Counting
+saysN s = s .n
+
+-- one less
+abbrev pub saysOneLess : Counting
+saysOneLess s = s .h - s .n - 1
+
+-- 1 wherever anything is owed
+abbrev pub saysOne : Counting
+saysOne s = cond (eqb (s .h) (s .n)) 0 1
+
 -- ---- what `proofs/Wrong.antt` shows
 
 pub record RuledOut : Type 0 where
-  pub counts-rest : Claim (By countsRest) Loads → ⊥
-  pub invents-n : Claim (By inventsN) Loads → ⊥
-  pub early-to-next : Claim (By earlyToNext) Loads → ⊥
-  pub repeat-raises : Claim (By repeatRaises) Loads → ⊥
-  pub keeps-h : Claim (By keepsH) Loads → ⊥
-  pub does-again : Claim (By doesAgain) Loads → ⊥
-  pub takes-any : Claim Arrives (LoadBy takesAny) → ⊥
-  pub takes-none : Claim Arrives (LoadBy takesNone) → ⊥
-  pub keeps-table : Claim Arrives (LoadBy keepsTable) → ⊥
-  pub keeps-n : Claim Arrives (LoadBy keepsN) → ⊥
-  pub loads-keeping-h : Claim Arrives LoadsKeepingH → ⊥
+  pub counts-rest : Claim (By countsRest) Loads Owes → ⊥
+  pub invents-n : Claim (By inventsN) Loads Owes → ⊥
+  pub early-to-next : Claim (By earlyToNext) Loads Owes → ⊥
+  pub repeat-raises : Claim (By repeatRaises) Loads Owes → ⊥
+  pub keeps-h : Claim (By keepsH) Loads Owes → ⊥
+  pub early-keeps-h : Claim (By earlyKeepsH) Loads Owes → ⊥
+  pub raises-beyond : Claim (By raisesBeyond) Loads Owes → ⊥
+  pub does-again : Claim (By doesAgain) Loads Owes → ⊥
+  pub takes-any : Claim Arrives (LoadBy takesAny) Owes → ⊥
+  pub takes-none : Claim Arrives (LoadBy takesNone) Owes → ⊥
+  pub keeps-table : Claim Arrives (LoadBy keepsTable) Owes → ⊥
+  pub keeps-n : Claim Arrives (LoadBy keepsN) Owes → ⊥
+  pub loads-keeping-h : Claim Arrives LoadsKeepingH Owes → ⊥
+  pub says-h : Claim Arrives Loads (ReportBy saysH) → ⊥
+  pub says-n : Claim Arrives Loads (ReportBy saysN) → ⊥
+  pub says-one-less : Claim Arrives Loads (ReportBy saysOneLess) → ⊥
+  pub says-one : Claim Arrives Loads (ReportBy saysOne) → ⊥

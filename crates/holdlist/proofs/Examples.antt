@@ -1,4 +1,4 @@
--- What is printed of some input, by the definitions: the scope's example, words left over behind a record, bytes that are escaped, and a large number.
+-- What is printed of some input, by the definitions: the scope's example, changes that are owed, words left over behind a record, bytes that are escaped, and a large number.
 use Prim.Native.Nat.{ℕ}
 use mathlib.Core.Path.{_≡_, refl}
 use mathlib.Core.List.{List, [], _∷_, _++_}
@@ -19,7 +19,7 @@ use Rattle.records.specs.Records.{actNumber, pathWords, pathPart, actPart, chan
 use Rattle.standby.specs.Arriving.{standbyIn, wellFormed, higher, applied, passedBy, taken, arrival}
 use Rattle.holdlist.specs.Escaping.{isPlain, escapedByte, escaped}
 use Rattle.holdlist.specs.Holding.{wordsOf, stop, afterArrival, afterRecord, afterNext, heldFrom, unnumbered, held}
-use Rattle.holdlist.specs.Lines.{text, newline, decimalBy, decimal, owedText, header, entryLine, entryLines, stoppedLine, listing}
+use Rattle.holdlist.specs.Lines.{text, newline, decimalBy, decimal, header, entryLine, entryLines, stoppedLine, listing}
 
 -- what is printed of some input
 printed : List ℕ → List ℕ
@@ -31,15 +31,20 @@ two-changes =
     0x11 ∷ 0x00 ∷ 0x00 ∷ 0x01 ∷ 0x20 ∷ 0x00 ∷ 0x00 ∷ 0x02 ∷ 0x30 ∷ 0x2F ∷ 0x63 ∷ 0x00
     ∷ 0x12 ∷ 0x00 ∷ 0x00 ∷ 0x02 ∷ 0x20 ∷ 0x00 ∷ 0x00 ∷ 0x02 ∷ 0x30 ∷ 0x2F ∷ 0x7A ∷ 0x00 ∷ []
 
+-- `17000001 1700005B`: change 1, and then change 91
+ninety-owed : List ℕ
+ninety-owed = 0x17 ∷ 0x00 ∷ 0x00 ∷ 0x01 ∷ 0x17 ∷ 0x00 ∷ 0x00 ∷ 0x5B ∷ []
+
 -- `17000001 40000001`
 word-left : List ℕ
 word-left = 0x17 ∷ 0x00 ∷ 0x00 ∷ 0x01 ∷ 0x40 ∷ 0x00 ∷ 0x00 ∷ 0x01 ∷ []
 
 examples : (printed two-changes ≡ text "entries 2 changes 2 owed 0 switches 0 marks 1" ++ newline ++ text "D /z" ++ newline ++ text "G /c" ++ newline)
+    × (printed ninety-owed ≡ text "entries 0 changes 1 owed 90 switches 0 marks 0" ++ newline)
     × (printed word-left ≡ text "entries 0 changes 1 owed 0 switches 0 marks 0" ++ newline ++ text "stopped at word 1" ++ newline)
     × (escaped (0x2F ∷ 0x20 ∷ 0x25 ∷ 0x00 ∷ 0x7F ∷ 0xFF ∷ 0x21 ∷ 0x7E ∷ []) ≡ text "/%20%25%00%7F%FF!~")
     × (decimal 18446744073709551615 ≡ text "18446744073709551615")
-unfolding printed two-changes word-left
+unfolding printed two-changes ninety-owed word-left
     firstCause andThen unless
     same grown parted pieces withoutEmpty components slashed spell
     isAbsolute entered enterAll normalize isResolved
@@ -54,5 +59,5 @@ unfolding printed two-changes word-left
     standbyIn wellFormed higher applied passedBy taken arrival
     isPlain escapedByte escaped
     wordsOf stop afterArrival afterRecord afterNext heldFrom
-    decimalBy owedText header entryLine entryLines stoppedLine listing
-examples = (refl, refl, refl, refl)
+    decimalBy header entryLine entryLines stoppedLine listing
+examples = (refl, refl, refl, refl, refl)

@@ -1,4 +1,4 @@
--- Whatever the input, memory that holds a table holds one afterwards.
+-- Whatever the input, memory that holds a table holds one afterwards, and n does not come above h.
 use Prim.Native.Nat.{ℕ, zero, suc, _≤_}
 use mathlib.Core.Path.{_≡_, refl, ap, _∙_}
 use mathlib.Core.List.{List}
@@ -14,38 +14,48 @@ use Rattle.table.specs.Calls.{MakesFresh}
 use Rattle.table.proofs.Puts.{holds-put}
 use Rattle.table.proofs.CallLaws.{made-fresh}
 use Rattle.records.specs.Records.{Change, Read, changeWords, readFirst}
-use Rattle.standby.specs.Arriving.{Taken, actsIn}
-use Rattle.standby.proofs.KeepLaws.{arrival-acted}
+use Rattle.standby.specs.Arriving.{Taken, actsIn, numbersIn}
+use Rattle.standby.proofs.KeepLaws.{Raises, arrival-acted, arrival-raises}
 use Rattle.holdlist.specs.declared.Held.{Held}
 use Rattle.holdlist.specs.declared.Input.{Input}
 use Rattle.holdlist.specs.declared.Input.the-variants as answer
-use Rattle.holdlist.specs.Holding.{Standing, wordsOf, stop, afterArrival, afterRecord, behind, afterNext, heldFrom}
+use Rattle.holdlist.specs.Holding.{Standing, wordsOf, stop, afterArrival, afterRecord, behind, afterNext, heldFrom, unnumbered, beginning, standing}
 use Rattle.holdlist.specs.Input.{HoldsInput, unreadable, all}
-use Rattle.holdlist.proofs.HoldingLaws.{rests, held-still, held-step}
+use Rattle.holdlist.proofs.HoldingLaws.{holds-is, rests, held-still, held-step}
 
-after-arrival : (call : Result Taken) (k : ℕ) (s : Standing) → holds (s .memory) ≡ true → holds (doActs (s .memory) (actsIn call)) ≡ true
-    → holds (afterArrival call k s .memory) ≡ true
-unfolding afterArrival stop actsIn
-after-arrival (refused cause) k s h a = h
-after-arrival (ok t) k s h a = a
+pub record Sound (s : Standing) : Type 0 where
+  pub holding : holds (s .memory) ≡ true
+  pub ordered : s .numbers .n ≤ s .numbers .h
 
-after-record : (o : Option (Read Change)) (s : Standing) → holds (s .memory) ≡ true → holds (afterRecord o s .memory) ≡ true
-unfolding afterRecord stop
-after-record none s h = h
-after-record (some r) s h = after-arrival _ _ s h (arrival-acted (s .memory) h (changeWords (r .value)) (s .numbers) .holding)
+stopped : (s : Standing) → Sound s → Sound (stop s)
+unfolding stop
+stopped s S = record { holding = S .holding; ordered = S .ordered }
 
-after-next : (s : Standing) (input : List ℕ) → holds (s .memory) ≡ true → holds (afterNext s input .memory) ≡ true
+after-arrival : (call : Result Taken) (k : ℕ) (s : Standing) → Sound s → holds (doActs (s .memory) (actsIn call)) ≡ true
+    → Raises (s .numbers) (numbersIn call (s .numbers)) → Sound (afterArrival call k s)
+unfolding afterArrival actsIn numbersIn
+after-arrival (refused cause) k s S a R = stopped s S
+after-arrival (ok t) k s S a R = record { holding = a; ordered = R .ordered (S .ordered) }
+
+after-record : (o : Option (Read Change)) (s : Standing) → Sound s → Sound (afterRecord o s)
+unfolding afterRecord
+after-record none s S = stopped s S
+after-record (some r) s S =
+    let words = changeWords (r .value) in
+    after-arrival _ _ s S (arrival-acted (s .memory) (S .holding) words (s .numbers) .holding)
+    (arrival-raises (s .memory) words (s .numbers) (record { answer = refl; memory = refl; numbers = refl }))
+
+after-next : (s : Standing) (input : List ℕ) → Sound s → Sound (afterNext s input)
 unfolding afterNext
-after-next s input h = after-record (readFirst (wordsOf (behind s input))) s h
+after-next s input S = after-record (readFirst (wordsOf (behind s input))) s S
 
-after-held : (keep turns : ℕ) (s : Standing) (input : List ℕ) → holds (s .memory) ≡ true → holds (heldFrom keep turns s input .memory) ≡ true
+after-held : (keep turns : ℕ) (s : Standing) (input : List ℕ) → Sound s → Sound (heldFrom keep turns s input)
 unfolding heldFrom
-after-held keep zero s input h = h
-after-held keep (suc turns) s input h = go (rests keep s input) refl (after-held keep turns (afterNext s input) input (after-next s input h))
+after-held keep zero s input S = S
+after-held keep (suc turns) s input S = go (rests keep s input) refl (after-held keep turns (afterNext s input) input (after-next s input S))
   where
-    go : (b : Bool) → rests keep s input ≡ b → holds (heldFrom keep turns (afterNext s input) input .memory) ≡ true
-        → holds (heldFrom keep (suc turns) s input .memory) ≡ true
-    go true e i = rw (held-still keep s input (suc turns) e) h
+    go : (b : Bool) → rests keep s input ≡ b → Sound (heldFrom keep turns (afterNext s input) input) → Sound (heldFrom keep (suc turns) s input)
+    go true e i = rw (held-still keep s input (suc turns) e) S
     go false e i = rw (held-step keep s input turns e) i
 
 -- a fresh table, and what the input makes of it
@@ -53,7 +63,10 @@ fresh-table : isTable fresh ≡ true
 unfolding isTable pathBytes every marksOf present any
 fresh-table = refl
 
-pub input-held : {m m₁ m₂ : List ℕ} {made : Outcome} {r : Input} {held : Held} → tableBytes ≤ length m → MakesFresh m m₁ made → HoldsInput m₁ m₂ r → r ≡ answer.Held held
-    → holds m₂ ≡ true
-input-held l F unreadable e = let z : _≡_ {A = ℕ} 0 1 = cc in absurd (omega arith)
-input-held {m} {m₁} l F (all input H) e = ap holds (H .memory) ∙ after-held _ _ _ input (ap holds (made-fresh l F) ∙ holds-put fresh m fresh-table l)
+pub input-kept : {m m₁ m₂ : List ℕ} {made : Outcome} {r : Input} {held : Held} → tableBytes ≤ length m → MakesFresh m m₁ made → HoldsInput m₁ m₂ r → r ≡ answer.Held held
+    → Sound (standing m₂ held)
+input-kept l F unreadable e = let z : _≡_ {A = ℕ} 0 1 = cc in absurd (omega arith)
+input-kept {m} {m₁} {held = held} l F (all {r = r} input H) e =
+    let same : held ≡ r = cc in
+    let first : Sound (beginning m₁ unnumbered) = record { holding = ap holds (made-fresh l F) ∙ holds-put fresh m fresh-table l; ordered = omega arith } in
+    rw (same, holds-is H) (after-held _ _ _ input first)

@@ -5,8 +5,6 @@ use mathlib.Core.List.{List, [], _∷_, _++_, append-nil, append-assoc}
 use mathlib.Core.Bool.{Bool, true, false, cond}
 use native.Mathlib.Omega.{arith}
 use lib.ListN.{length, take, length-append}
-use lib.Dec.{eqb}
-use borrow.Author.Tests.{eq-eqb, ne-eqb}
 use Rattle.refusals.specs.declared.Refusal.{Refusal}
 use Rattle.io.specs.Digits.{digits, Fewest}
 use Rattle.paths.specs.Copying.{Appends}
@@ -23,15 +21,14 @@ use Rattle.table.proofs.ReadingLaws.{first-in, first-from, from-entry, from-end
 use Rattle.standby.specs.declared.Numbers.{Numbers}
 use Rattle.standby.specs.declared.Owed.{Owed}
 use Rattle.standby.specs.declared.Owed.the-variants.{Changes, Refused}
-use Rattle.standby.specs.Owing.{Owes, above, reports}
+use Rattle.standby.specs.Owing.{owedOf, Owes}
+use Rattle.standby.proofs.OwingLaws.{owing-exact}
 use Rattle.holdlist.specs.Escaping.{escaped}
 use Rattle.holdlist.specs.Holding.{Standing}
 use Rattle.holdlist.specs.Lines.{
-  text,
   newline,
   decimal,
   labelled,
-  owedText,
   header,
   kindLetter,
   entryLine,
@@ -61,49 +58,21 @@ labelled-end label n A = omega (arith, A .end, length-append label (decimal n), 
 
 -- ---- what is owed
 
-module _ {n h : ℕ} where
-  owes-zero : {owed : Owed} {k : ℕ} → Owes n h owed → owed ≡ Changes k → k ≡ 0 → h ≡ n
-  owes-zero (above l) e z = let f : _≡_ {A = ℕ} 0 1 = cc in absurd (omega arith)
-  owes-zero {k = k} (reports {k = j} l R) e z = let f : j ≡ k = cc in R .some (f ∙ z)
+-- the report says how much, and is not refused
+module _ (s : Numbers) (l : s .n ≤ s .h) {owed : Owed} (O : Owes s owed) where
+  pub owed-count : {k : ℕ} → owed ≡ Changes k → k ≡ owedOf s
+  owed-count {k} e = let told : Changes k ≡ Changes (owedOf s) = sym e ∙ O ∙ sym (owing-exact s l refl) in cc
 
-  owes-more : {owed : Owed} {k : ℕ} → Owes n h owed → owed ≡ Changes k → (k ≡ 0 → ⊥) → h ≡ n → ⊥
-  owes-more (above l) e z f = omega arith
-  owes-more {k = k} (reports {k = j} l R) e z f = let g : j ≡ k = cc in z (sym g ∙ R .none f)
-
-  owes-above : {owed : Owed} {cause : Refusal} → Owes n h owed → owed ≡ Refused cause → h ≡ n → ⊥
-  owes-above (above l) e f = omega arith
-  owes-above (reports l R) e f = let g : _≡_ {A = ℕ} 0 1 = cc in omega arith
-
-module _ (s : Numbers) {owed : Owed} (O : Owes (s .n) (s .h) owed) {m : List ℕ} {at : ℕ} {m′ : List ℕ} {r : ℕ} where
-  pub owed-none : {k : ℕ} → owed ≡ Changes k → k ≡ 0 → Appends (text " owed 0") m at m′ r → Appends (owedText s) m at m′ r
-  unfolding owedText
-  owed-none e z A = rw (eq-eqb (s .h) (s .n) (owes-zero O e z)) A
-
-  owed-other : (s .h ≡ s .n → ⊥) → Appends (text " owed some") m at m′ r → Appends (owedText s) m at m′ r
-  unfolding owedText
-  owed-other n A = rw (ne-eqb (s .h) (s .n) n) A
-
-  pub owed-some : {k : ℕ} → owed ≡ Changes k → (k ≡ 0 → ⊥) → Appends (text " owed some") m at m′ r → Appends (owedText s) m at m′ r
-  owed-some e z A = owed-other (owes-more O e z) A
-
-  pub owed-refused : {cause : Refusal} → owed ≡ Refused cause → Appends (text " owed some") m at m′ r → Appends (owedText s) m at m′ r
-  owed-refused e A = owed-other (owes-above O e) A
-
-owed-long : (s : Numbers) → length (owedText s) ≤ 10
-unfolding owedText
-owed-long s = by (eqb (s .h) (s .n))
-  where
-    by : (b : Bool) → length (cond b (text " owed 0") (text " owed some")) ≤ 10
-    by true = omega arith
-    by false = omega arith
-
-pub owed-end : (s : Numbers) {m : List ℕ} {at : ℕ} {m′ : List ℕ} {r : ℕ} → Appends (owedText s) m at m′ r → r ≤ at + 10
-owed-end s A = omega (arith, A .end, owed-long s)
+  pub owed-unrefused : {cause : Refusal} → owed ≡ Refused cause → ⊥
+  owed-unrefused {cause} e =
+      let told : Refused cause ≡ Changes (owedOf s) = sym e ∙ O ∙ sym (owing-exact s l refl) in
+      let z : _≡_ {A = ℕ} 0 1 = cc in
+      omega arith
 
 -- ---- the header
 
 module _ (t : Table) (s : Numbers) where
-  header-long : length (header t s) ≤ 125
+  header-long : length (header t s) ≤ 141
   unfolding header
   header-long =
       simp length-append
@@ -111,27 +80,27 @@ module _ (t : Table) (s : Numbers) where
         arith,
         decimal-long 20 (length (t .entries)),
         decimal-long 20 (s .n),
-        owed-long s,
+        decimal-long 20 (owedOf s),
         decimal-long 20 (t .switches),
         decimal-long 20 (t .marks),
       ))
 
-  pub header-end : {m m′ : List ℕ} {r : ℕ} → Appends (header t s) m 0 m′ r → r ≤ 125
+  pub header-end : {m m′ : List ℕ} {r : ℕ} → Appends (header t s) m 0 m′ r → r ≤ 141
   header-end A = omega (arith, A .end, header-long)
 
-  pub header-written : (count switches marks : ℕ) {m m₁ m₂ m₃ m₄ m₅ m₆ : List ℕ} {n₁ n₂ n₃ n₄ n₅ r : ℕ} → 125 ≤ length m
-      → count ≡ length (t .entries) → switches ≡ t .switches → marks ≡ t .marks
-      → Appends (labelled "entries " count) m 0 m₁ n₁ → Appends (labelled " changes " (s .n)) m₁ n₁ m₂ n₂ → Appends (owedText s) m₂ n₂ m₃ n₃
+  pub header-written : (count owed switches marks : ℕ) {m m₁ m₂ m₃ m₄ m₅ m₆ : List ℕ} {n₁ n₂ n₃ n₄ n₅ r : ℕ} → 141 ≤ length m
+      → count ≡ length (t .entries) → owed ≡ owedOf s → switches ≡ t .switches → marks ≡ t .marks
+      → Appends (labelled "entries " count) m 0 m₁ n₁ → Appends (labelled " changes " (s .n)) m₁ n₁ m₂ n₂ → Appends (labelled " owed " owed) m₂ n₂ m₃ n₃
       → Appends (labelled " switches " switches) m₃ n₃ m₄ n₄ → Appends (labelled " marks " marks) m₄ n₄ m₅ n₅ → Appends newline m₅ n₅ m₆ r
       → Appends (header t s) m 0 m₆ r
   unfolding header
-  header-written count switches marks h c sw mk a b o d e f =
+  header-written count owed switches marks h c ow sw mk a b o d e f =
       let l₁ = decimal-long 20 count in
       let l₂ = decimal-long 20 (s .n) in
-      let l₃ = owed-long s in
+      let l₃ = decimal-long 20 owed in
       let l₄ = decimal-long 20 switches in
       let l₅ = decimal-long 20 marks in
-      rw (sym c, sym sw, sym mk)
+      rw (sym c, sym ow, sym sw, sym mk)
       (then (omega arith) (then (omega arith) (then (omega arith) (then (omega arith) (then (omega arith) a b) o) d) e) f)
 
 -- ---- entries

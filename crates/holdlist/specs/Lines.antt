@@ -1,4 +1,4 @@
--- What holdlist prints. Scope, "Handover, at the top": the header gives the entry count, n, owed (0 or `some`), and switches and marks in decimal;
+-- What holdlist prints. Scope, "Handover, at the top": the header gives the entry count, n, how much is owed, switches and marks, in decimal;
 -- then one line for each entry, kind and path; and `stopped at word W` where reading ended early.
 use Prim.Native.Nat.{ℕ, zero, suc, _+_, _/_, _%_}
 use Prim.Native.Char.{code}
@@ -6,13 +6,14 @@ use Prim.Native.String.{String}
 use mathlib.Core.List.{List, [], _∷_, _++_}
 use mathlib.Core.Bool.{cond}
 use lib.ListN.{length}
-use lib.Dec.{ltb, eqb}
+use lib.Dec.{ltb}
 use Rattle.table.specs.declared.Kind.{Kind}
 use Rattle.table.specs.declared.Kind.the-variants.{G, D, P, I}
 use Rattle.table.specs.Entries.{Entry}
 use Rattle.table.specs.Tables.{Table}
 use Rattle.table.specs.Memory.{tableOf}
 use Rattle.standby.specs.declared.Numbers.{Numbers}
+use Rattle.standby.specs.Owing.{owedOf}
 use Rattle.holdlist.specs.Escaping.{escaped}
 use Rattle.holdlist.specs.Holding.{Standing}
 
@@ -36,13 +37,10 @@ decimal n = decimalBy 20 n
 abbrev pub labelled : String → ℕ → List ℕ
 labelled label n = text label ++ decimal n
 
--- 0 exactly if h = n
-unfoldable pub owedText : Numbers → List ℕ
-owedText s = cond (eqb (s .h) (s .n)) (text " owed 0") (text " owed some")
-
+-- n is not above h in a standby that was fresh: `input-kept`
 unfoldable pub header : Table → Numbers → List ℕ
 header t s =
-    labelled "entries " (length (t .entries)) ++ labelled " changes " (s .n) ++ owedText s ++ labelled " switches " (t .switches)
+    labelled "entries " (length (t .entries)) ++ labelled " changes " (s .n) ++ labelled " owed " (owedOf s) ++ labelled " switches " (t .switches)
     ++ labelled " marks " (t .marks) ++ newline
 
 -- the letters G, D, P and I
@@ -70,4 +68,4 @@ listing s =
 
 -- room for all of it: 256 entries with 32,768 path bytes, each printed as three, and the other lines
 abbrev pub listingBytes : ℕ
-listingBytes = 99234
+listingBytes = 99250

@@ -15,12 +15,13 @@ ghost use lib.ListN.{length};
 ghost use Rattle.paths.specs.Copying.{Appends};
 ghost use Rattle.table.specs.Tables.{pathBytes};
 ghost use Rattle.table.specs.Memory.{tableOf, holds};
+ghost use Rattle.standby.specs.Owing.{owedOf};
 ghost use Rattle.holdlist.specs.Escaping.{isPlain, digit, escapedByte, escaped};
 ghost use Rattle.holdlist.specs.Holding.{standing};
-ghost use Rattle.holdlist.specs.Lines.{decimal, owedText, header, kindLetter, entryLine, entryLines, stoppedLine, listing, listingBytes};
+ghost use Rattle.holdlist.specs.Lines.{decimal, header, kindLetter, entryLine, entryLines, stoppedLine, listing, listingBytes};
 
 // Room for all that can be printed: 256 entries with 32,768 path bytes, each written as three, and the other lines.
-pub const LISTING_BYTES: usize = 99234;
+pub const LISTING_BYTES: usize = 99250;
 
 // ---- pieces
 
@@ -88,30 +89,27 @@ fn append_labelled(space: &mut [u8], at: usize, label: &[u8], n: u64) -> usize
     append(space, from, &digits[..k])
 }
 
-// Writes what is owed, 0 or `some`.
-fn append_owed(space: &mut [u8], at: usize, numbers: Numbers) -> usize
-    requires { ⌜ at + 10 ≤ length (now space) ⌝ }
-    ensures { λ r. ⌜ Appends (owedText numbers) (now (space .entry)) at (now (space .exit)) r ⌝ }
+// How many changes are owed, where n is not above h.
+fn count_owed(numbers: Numbers) -> u64
+    requires { ⌜ numbers .n ≤ numbers .h ⌝ }
+    ensures { λ r. ⌜ r ≡ owedOf numbers ⌝ }
 {
-    let Owed::Changes(k) = owed(numbers) else {
-        return append(space, at, b" owed some");
-    };
-    if k == 0 {
-        return append(space, at, b" owed 0");
+    match owed(numbers) {
+        Owed::Changes(k) => k,
+        Owed::Refused(_) => 0,
     }
-    append(space, at, b" owed some")
 }
 
 // ---- lines
 
 // Writes the header from the space's start.
 fn write_header(space: &mut [u8], mem: &[u8], numbers: Numbers) -> usize
-    requires { ⌜ (holds (now mem) ≡ true) × (125 ≤ length (now space)) ⌝ }
+    requires { ⌜ (holds (now mem) ≡ true) × (numbers .n ≤ numbers .h) × (141 ≤ length (now space)) ⌝ }
     ensures { λ r. ⌜ Appends (header (tableOf (now (mem .entry))) numbers) (now (space .entry)) 0 (now (space .exit)) r ⌝ }
 {
     let counted = append_labelled(space, 0, b"entries ", listing::count(mem) as u64);
     let numbered = append_labelled(space, counted, b" changes ", numbers.n);
-    let owing = append_owed(space, numbered, numbers);
+    let owing = append_labelled(space, numbered, b" owed ", count_owed(numbers));
     let switched = append_labelled(space, owing, b" switches ", reading::switches(mem) as u64);
     let marked = append_labelled(space, switched, b" marks ", reading::marks(mem) as u64);
     append(space, marked, b"\n")
@@ -166,7 +164,7 @@ fn append_stopped(space: &mut [u8], at: usize, words: usize) -> usize
 
 // Writes all that is printed from the space's start, and says how many bytes that is.
 pub fn write_listing(space: &mut [u8], mem: &[u8], held: Held) -> usize
-    requires { ⌜ (holds (now mem) ≡ true) × (listingBytes ≤ length (now space)) ⌝ }
+    requires { ⌜ (holds (now mem) ≡ true) × (held .numbers .n ≤ held .numbers .h) × (listingBytes ≤ length (now space)) ⌝ }
     ensures { λ r. ⌜ Appends (listing (standing (now (mem .entry)) held)) (now (space .entry)) 0 (now (space .exit)) r ⌝ }
 {
     let numbers = held.numbers;

@@ -222,6 +222,6 @@ ExportedArriveImage m words n h m′ n′ h′ r = ExportedArrival (Loads m word
 -- how much is owed
 pub record ExportedOwed (n h k : ℕ) (r : ℤ) : Type 0 where
   pub answered : Owed
-  pub promise : Owes n h answered
+  pub promise : Owes (record { n = n; h = h }) answered
   pub number : r ≡ owedNumber answered
   pub count : k ≡ owedCount answered

@@ -1,13 +1,15 @@
--- Laws of what is owed: what may be reported where h is n, and where it is above.
-use Prim.Native.Nat.{ℕ, _-_, _≤_, _<_}
+-- Laws of what is owed: the report where n is above h, and where it is not.
+use Prim.Native.Nat.{ℕ, _≤_, _<_}
 use mathlib.Core.Path.{_≡_}
-use native.Mathlib.Omega.{arith}
-use Rattle.standby.specs.declared.Owed.the-variants.{Changes}
-use Rattle.standby.specs.Owing.{Owes, reports}
+use borrow.Author.Tests.{lt-ltb, le-ltb}
+use Rattle.refusals.specs.declared.Refusal.the-variants.{NoTable}
+use Rattle.standby.specs.declared.Numbers.{Numbers}
+use Rattle.standby.specs.declared.Owed.the-variants.{Changes, Refused}
+use Rattle.standby.specs.Owing.{owedOf, owing}
 
-module _ {n h k : ℕ} where
-  pub owes-none : h ≡ n → k ≡ 0 → Owes n h (Changes k)
-  owes-none e z = reports {k = k} (omega arith) (record { none = λ f. z; some = λ f. e; most = omega arith })
+module _ (s : Numbers) where
+  pub owing-above : s .h < s .n → Refused NoTable ≡ owing s
+  owing-above l = rw (lt-ltb (s .h) (s .n) l)
 
-  pub owes-some : n < h → 1 ≤ k → k ≤ h - n → Owes n h (Changes k)
-  owes-some l some-change most = reports {k = k} (omega arith) (record { none = λ f. omega arith; some = λ f. omega arith; most = most })
+  pub owing-exact : {k : ℕ} → s .n ≤ s .h → k ≡ owedOf s → Changes k ≡ owing s
+  owing-exact l e = rw (le-ltb (s .h) (s .n) l, e)

@@ -26,7 +26,7 @@ pub struct Arrived {
     pub numbers: Numbers,
 }
 
-// How many changes are owed: 0 if none is, else at least 1; or the numbers are refused.
+// How many changes are owed; or the numbers are refused.
 pub enum Owed {
     Changes(u64),
     Refused(Refusal),

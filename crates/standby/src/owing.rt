@@ -4,17 +4,14 @@ use crate::Owed;
 use refusals::Refusal;
 ghost use Rattle.standby.specs.Owing.{Owes};
 
-// How many changes are owed. Which number is said where any is, is the program's choice: it says 1.
+// How many changes are owed: those behind n up to h, the highest that was met.
 pub fn owed(numbers: Numbers) -> Owed
-    ensures { λ r. ⌜ Owes (numbers .n) (numbers .h) r ⌝ }
+    ensures { λ r. ⌜ Owes numbers r ⌝ }
 {
     let n = numbers.n;
     let h = numbers.h;
     if h < n {
         return Owed::Refused(Refusal::NoTable);
     }
-    if h == n {
-        return Owed::Changes(0);
-    }
-    Owed::Changes(1)
+    Owed::Changes(h - n)
 }

@@ -16,7 +16,7 @@ append-entries-requires c κs =
     let head = c .before .before .before in
     let start = head .before .before .before .before .before in
     let mem = now (start .args .mem) in
-    (start .pre .0, omega (arith, start .pre .1, header-end (tableOf mem) _ (head .write-header .ensures), entries-room mem (start .pre .0)))
+    (start .pre .0, omega (arith, start .pre .2, header-end (tableOf mem) _ (head .write-header .ensures), entries-room mem (start .pre .0)))
 
 append-stopped-requires : tie.Need-append-stopped-requires
 append-stopped-requires c κs =
@@ -24,7 +24,7 @@ append-stopped-requires c κs =
     let head = lines .before .before .before .before in
     let start = head .before .before .before .before .before in
     let mem = now (start .args .mem) in
-    omega (arith, start .pre .1, header-end (tableOf mem) _ (head .write-header .ensures), entries-end mem (start .pre .0) (lines .append-entries .ensures))
+    omega (arith, start .pre .2, header-end (tableOf mem) _ (head .write-header .ensures), entries-end mem (start .pre .0) (lines .append-entries .ensures))
 
 same-length : tie.Need-same-length
 same-length c = search needs
@@ -39,8 +39,8 @@ returns c =
     let mem = now (start .args .mem) in
     let header = header-end (tableOf mem) _ (head .write-header .ensures) in
     let entries = entries-end mem (start .pre .0) (lines .append-entries .ensures) in
-    listing-stopped (standing mem (start .args .held)) (omega (arith, start .pre .1)) (head .write-header .ensures) (lines .append-entries .ensures)
-    (test .if1 .taken) (omega (arith, start .pre .1)) (last .append-stopped .ensures)
+    listing-stopped (standing mem (start .args .held)) (omega (arith, start .pre .2)) (head .write-header .ensures) (lines .append-entries .ensures)
+    (test .if1 .taken) (omega (arith, start .pre .2)) (last .append-stopped .ensures)
 
 same-length-2 : tie.Need-same-length-2
 same-length-2 c = search needs
@@ -51,7 +51,7 @@ returns-2 c =
     let head = lines .before .before .before .before in
     let start = head .before .before .before .before .before in
     let mem = now (start .args .mem) in
-    listing-whole (standing mem (start .args .held)) (omega (arith, start .pre .1, header-end (tableOf mem) _ (head .write-header .ensures)))
+    listing-whole (standing mem (start .args .held)) (omega (arith, start .pre .2, header-end (tableOf mem) _ (head .write-header .ensures)))
     (head .write-header .ensures) (lines .append-entries .ensures) (c .if1 .left)
 
 pub write-listing-spec : {M : Type 1} → statement M

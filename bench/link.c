@@ -140,10 +140,10 @@ static int32_t early(struct turn *turn) { return arrive(turn, entries - 2) - PER
 
 static int32_t owed(struct turn *turn)
 {
-    uint64_t some;
+    uint64_t changes;
 
     (void)turn;
-    return permissions_owed(entries - 2, entries, &some);
+    return permissions_owed(entries - 2, entries, &changes);
 }
 
 static int32_t image(struct turn *turn)

@@ -543,7 +543,8 @@ static void a_permission_without_a_path(void)
 
 int main(void)
 {
-    printf("permissions %s\n", PERMISSIONS_VERSION);
+    printf("permissions %s, in numbers %d.%d.%d\n", PERMISSIONS_VERSION,
+           PERMISSIONS_VERSION_MAJOR, PERMISSIONS_VERSION_MINOR, PERMISSIONS_VERSION_PATCH);
     the_same_entries_in_two_sequences();
     partial_and_switches();
     refusals();

@@ -9,8 +9,8 @@ use lib.ListN.{length, take, drop}
 use borrow.Author.Tests.{le-leb, ltb-false}
 use Rattle.refusals.specs.declared.Refusal.{Refusal}
 use Rattle.refusals.specs.declared.Refusal.the-variants.{NoSpace, Unknown, NumbersUsedUp}
-use Rattle.refusals.specs.Refusals.{Result, refused, ok, andThen, unless}
-use Rattle.refusals.proofs.CauseLaws.{no-cause-head, no-cause-tail, unless-ok}
+use Rattle.refusals.specs.Refusals.{Result, ok, andThen}
+use Rattle.refusals.proofs.CauseLaws.{no-cause-head, no-cause-tail, unless-ok, Hands, stops, hands, hands-itself, hands-then, hands-unless}
 use Rattle.paths.specs.declared.Descriptor.{Descriptor}
 use Rattle.paths.specs.Components.{Bytes}
 use Rattle.paths.specs.Resolving.{resolve}
@@ -25,10 +25,10 @@ use Rattle.table.specs.Tables.{Table, isEntry, isTable}
 use Rattle.table.specs.Acts.{Act, insert, setSwitches, isAct, applyActs}
 use Rattle.table.specs.Memory.{tableOf, holds, doActs}
 use Rattle.table.specs.Carrying.{maxNumber, linked, past, actsOf, actOf, actionOf, fits}
-use Rattle.table.specs.Calls.{tableIn, freshIn, recordRoom, knownSwitches, carried, switchesCall, insertCall}
+use Rattle.table.specs.Calls.{freshIn, recordRoom, knownSwitches, carried, switchesCall, insertCall}
 use Rattle.table.specs.Calls as table-calls
 use Rattle.table.proofs.Puts.{valid-of}
-use Rattle.table.proofs.CallLaws.{a-table}
+use Rattle.table.proofs.CallLaws.{hands-table}
 use Rattle.calls.specs.declared.PromptResponse.{PromptResponse}
 use Rattle.calls.specs.declared.Call.{Call}
 use Rattle.calls.specs.declared.Call.the-variants.{Check}
@@ -50,35 +50,11 @@ use Rattle.handover.proofs.RecordableLaws.{Recorded, no-act, Sound, rec
 
 -- ---- steps of a checking order
 
--- what is handed on, if anything is, has P
-pub data Hands {A : Type 0} (P : A → Type 0) : Result A → Type 0 where
-  stops : {cause : Refusal} → Hands P (refused cause)
-  hands : {x : A} → P x → Hands P (ok x)
-
-itself : {A : Type 0} (a : Result A) → Hands (λ x. a ≡ ok x) a
-itself (refused cause) = stops
-itself (ok x) = hands refl
-
-step : {A B : Type 0} {P : A → Type 0} {Q : B → Type 0} {a : Result A} {f : A → Result B} → Hands P a → ((x : A) → P x → Hands Q (f x)) → Hands Q (andThen a f)
-unfolding andThen
-step stops h = stops
-step (hands {x = x} p) h = h x p
-
-hands-unless : {A : Type 0} {P : A → Type 0} (cause : Option Refusal) (x : A) → (cause ≡ none → P x) → Hands P (unless cause x)
-unfolding unless
-hands-unless none x h = hands (h refl)
-hands-unless (some cause) x h = stops
-
--- the first step, where memory holds a table
-on-table : {A : Type 0} {P : A → Type 0} (m : List ℕ) (f : Table → Result A) → holds m ≡ true → Hands P (f (tableOf m)) → Hands P (andThen (tableIn m) f)
-unfolding andThen
-on-table m f h H = rw (a-table m h) H
-
 -- the record space: acts are numbered after n
 on-room : {A : Type 0} {P : A → Type 0} (k n : ℕ) (w : List ℕ) (f : Numbering → Result A) → Hands P (f (After n)) → Hands P (andThen (recordRoom k (linked n w)) f)
 unfolding recordRoom
 on-room {P = P} k n w f H =
-    step (hands-unless {P = λ numbers. After n ≡ numbers} _ _ (λ e. refl)) (λ numbers e. subst (λ (x : Numbering). Hands P (f x)) e H)
+    hands-then (hands-unless {P = λ numbers. After n ≡ numbers} _ _ (λ e. refl)) (λ numbers e. subst (λ (x : Numbering). Hands P (f x)) e H)
 
 -- ---- the acts of a call, by what it hands on
 
@@ -124,7 +100,7 @@ module _ (p cwd : List ℕ) (B : Bytes p) (C : Bytes cwd) where
       → Hands (λ decision. Recorded n t (actsOf none (decision .act))) (settled call (After n) t d p cwd response)
   unfolding settled carriedOut
   settled-hands call n t d response v =
-      step (itself (given d p cwd)) (λ q e.
+      hands-then (hands-itself (given d p cwd)) (λ q e.
       hands-unless _ _
       (carried-recorded
       (given-sound d (λ q. decide call t q response .act) e (λ f. decided-fits t v q f response call) (decided-of t (resolve p cwd) call d response))))
@@ -157,8 +133,8 @@ items-bytes GrantedList bytes ends responses B = list-bytes bytes 0 ends respons
 arguments-bytes : (code : ℕ) (bytes ends responses : List ℕ) → Bytes bytes → Hands (λ args. ItemBytes (args .items)) (argumentsOf code bytes ends responses)
 unfolding argumentsOf
 arguments-bytes code bytes ends responses B =
-    step (itself (knownArg (argOf code))) (λ arg _.
-    step (itself (knownResponses responses)) (λ known _.
+    hands-then (hands-itself (knownArg (argOf code))) (λ arg _.
+    hands-then (hands-itself (knownResponses responses)) (λ known _.
     hands-unless _ _ (λ _. items-bytes arg bytes ends known B)))
 
 -- steps one after the other
@@ -194,45 +170,45 @@ module _ (n : ℕ) (m w : List ℕ) (h : holds m ≡ true) where
   pub switches-recorded : (v : ℕ) → Recorded n (tableOf m) (table-calls.actsIn (switchesCall (linked n w) m v))
   unfolding switchesCall carried
   switches-recorded v =
-      by-act (on-table m _ h (on-room 1 n w _ (
-      step (itself (knownSwitches v)) (λ k e.
+      by-act (hands-table m _ h (on-room 1 n w _ (
+      hands-then (hands-itself (knownSwitches v)) (λ k e.
       hands-unless _ _ (carried-recorded (switches-sound v e))))))
 
   module _ (p cwd : List ℕ) (B : Bytes p) (C : Bytes cwd) where
     pub insert-recorded : (kind : ℕ) → Recorded n (tableOf m) (table-calls.actsIn (insertCall (linked n w) m kind p cwd))
     unfolding insertCall carried
     insert-recorded kind =
-        by-act (on-table m _ h (on-room 1 n w _ (
-        step (itself (knownKind (kindOf kind))) (λ k _.
-        step (itself (resolved p cwd)) (λ q e.
+        by-act (hands-table m _ h (on-room 1 n w _ (
+        hands-then (hands-itself (knownKind (kindOf kind))) (λ k _.
+        hands-then (hands-itself (resolved p cwd)) (λ q e.
         hands-unless _ _ (carried-recorded (insert-sound p cwd B C k e)))))))
 
     pub ask-recorded : (call : Call) (s : List ℕ) (d : Descriptor) (response : ℕ) → Recorded n (tableOf m) (actsIn (askCall call (linked n w) m s d p cwd response))
     unfolding askCall
     ask-recorded call s d response =
-        by-decision (on-table m _ h (
-        step (itself (textSpace s)) (λ space _. on-room 1 n w _ (
-        step (itself (knownResponse (responseOf response))) (λ known _.
+        by-decision (hands-table m _ h (
+        hands-then (hands-itself (textSpace s)) (λ space _. on-room 1 n w _ (
+        hands-then (hands-itself (knownResponse (responseOf response))) (λ known _.
         settled-hands p cwd B C call n (tableOf m) d known (valid-of m h))))))
 
     pub revoke-recorded : (d : Descriptor) → Recorded n (tableOf m) (actsIn (revokeCall (linked n w) m d p cwd))
     unfolding revokeCall carriedOut revokeDesc fits
     revoke-recorded d =
-        by-decision (on-table m _ h (on-room 1 n w _ (
-        step (itself (given d p cwd)) (λ q e.
+        by-decision (hands-table m _ h (on-room 1 n w _ (
+        hands-then (hands-itself (given d p cwd)) (λ q e.
         hands-unless _ _ (carried-recorded (given-sound p cwd B C d (λ q. some (revokeAct q)) e (revoke-fits q) (revoke-of (resolve p cwd) d)))))))
 
   pub create-recorded : (c : List ℕ) (code : ℕ) (bytes ends responses cwd : List ℕ) → Bytes bytes → Bytes cwd
       → Recorded n (tableOf m) (child-calls.actsIn (childCall (linked n w) m c code bytes ends responses cwd))
   unfolding childCall creation createChild completed takeOver
   create-recorded c code bytes ends responses cwd B C =
-      by-creation (on-table m _ h (
-      step (itself (freshIn c)) (λ empty _. on-room (length ends) n w _ (
-      step (arguments-bytes code bytes ends responses B) (λ args items.
+      by-creation (hands-table m _ h (
+      hands-then (hands-itself (freshIn c)) (λ empty _. on-room (length ends) n w _ (
+      hands-then (arguments-bytes code bytes ends responses B) (λ args items.
       hands (then-recorded _ _ _ (items-recorded n cwd m _ h C items) (rw (granting-acts _ _) no-act)))))))
 
   pub image-made : Hands (ImageOf m n) (imageCall m n w)
   unfolding imageCall
   image-made =
-      on-table m _ h (
+      hands-table m _ h (
       hands-unless _ _ (λ e. record { is = refl; few = ltb-false maxNumber n (no-cause-head _ NumbersUsedUp [] (no-cause-tail _ NoSpace _ e)) }))

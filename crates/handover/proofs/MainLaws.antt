@@ -8,6 +8,7 @@ use native.Mathlib.Omega.{arith}
 use lib.ListN.{length, take, length-append}
 use lib.Seq.{take-at, take-length, take-append-le}
 use Rattle.refusals.specs.Refusals.{Result, ok, causeOf}
+use Rattle.refusals.proofs.CauseLaws.{Hands, stops, hands}
 use Rattle.paths.specs.Components.{Bytes}
 use Rattle.paths.specs.Copying.{begun}
 use Rattle.table.specs.Tables.{Table, fresh}
@@ -47,9 +48,6 @@ use Rattle.handover.specs.Handover.{
 }
 use Rattle.handover.proofs.RecordableLaws.{Recorded, no-act, recorded-append, recorded-acted}
 use Rattle.handover.proofs.CallLaws.{
-  Hands,
-  stops,
-  hands,
   ImageOf,
   switches-recorded,
   insert-recorded,

@@ -3,28 +3,26 @@ use Prim.Native.Nat.{ℕ, zero, suc, _+_}
 use mathlib.Core.Path.{_≡_, refl, sym, ap, _∙_}
 use mathlib.Core.List.{List, [], _∷_, _++_, List·Memᴰ}
 use mathlib.Core.Option.{Option, none, some}
-use mathlib.Core.Bool.{Bool, true, _&&_, not}
+use mathlib.Core.Bool.{true}
 use native.Mathlib.Omega.{arith}
-use lib.ListN.{length, take, replicate, length-append, length-replicate}
+use lib.ListN.{length, take, length-append}
 use lib.Seq.{take-append-seam}
 use lib.Dec.{ltb}
-use borrow.Author.Tests.{not-true}
 use Rattle.refusals.specs.declared.Refusal.the-variants.{NoTable}
 use Rattle.refusals.specs.Refusals.{when, firstCause, Result, refused, ok, andThen, unless, causeOf}
 use Rattle.paths.specs.declared.Descriptor.{Descriptor}
 use Rattle.paths.specs.Components.{Bytes}
 use Rattle.paths.specs.Copying.{begun}
 use Rattle.paths.proofs.ByteLaws.{bytes-none, bytes-cons}
-use Rattle.paths.proofs.ComponentLaws.{and-left, and-right}
 use Rattle.table.specs.Tables.{Table, fresh, pathBytes, every, any, present, marksOf, isTable}
-use Rattle.table.specs.Acts.{Act, isAct, actOverflows, applyAct, applyActs}
-use Rattle.table.specs.Memory.{tableBytes, tableOf, holds, put, doActs}
+use Rattle.table.specs.Acts.{Act, applyActs}
+use Rattle.table.specs.Memory.{tableBytes, doActs}
 use Rattle.table.specs.Carrying.{linked, outcomeOf}
 use Rattle.table.specs.Calls.{tableIn, switchesCall, insertCall}
 use Rattle.table.specs.Calls as table-calls
-use Rattle.table.proofs.ActLaws.{Acted, acted-none, acted-one, acted-append, applied-append}
-use Rattle.table.proofs.CallLaws.{a-table}
-use Rattle.table.proofs.Puts.{tableOf-put, long-of, holds-put, left-put}
+use Rattle.table.proofs.ActLaws.{applied-append}
+use Rattle.table.proofs.Puts.{long-of, left-put}
+use Rattle.table.proofs.StandingLaws.{allFit, Stands, stands-then, table-in, spaceOf, tableMemory, memory-stands}
 use Rattle.walk.specs.declared.Answer.{Answer}
 use Rattle.walk.specs.Calls.{queryAnswer}
 use Rattle.calls.specs.declared.Call.{Call}
@@ -190,35 +188,6 @@ arrives m words s = record { answer = refl; memory = refl; numbers = refl }
 pub loads : (m words : List ℕ) (s : Numbers) → Loads m words s (memoryOf (loading m words s) m) (numbersOf (loading m words s) s) (answerOf (loading m words s))
 loads m words s = record { answer = refl; memory = refl; numbers = refl }
 
--- ---- a known table
-
--- acts in turn, each of which can be recorded and has room
-unfoldable pub allFit : Table → List Act → Bool
-allFit t [] = true
-allFit t (act ∷ acts) = (isAct act && not (actOverflows t act)) && allFit (applyAct t act) acts
-
-acted-all : (m : List ℕ) (acts : List Act) → holds m ≡ true → allFit (tableOf m) acts ≡ true → Acted m acts
-unfolding allFit applyActs
-acted-all m [] h f = acted-none m h
-acted-all m (act ∷ acts) h f =
-    let fits = isAct act && not (actOverflows (tableOf m) act) in
-    let this = and-left fits _ f in
-    let one = acted-one m act h (and-left (isAct act) _ this) (not-true _ (and-right (isAct act) _ this)) in
-    acted-append (act ∷ []) acts one (acted-all (doActs m (act ∷ [])) acts (one .holding) (rw (one .table) (and-right fits _ f)))
-
--- memory holds this table
-pub record Stands (m : List ℕ) (t : Table) : Type 0 where
-  pub holding : holds m ≡ true
-  pub table : tableOf m ≡ t
-
-stands-then : {m : List ℕ} {t : Table} → Stands m t → (new : List Act) → allFit t new ≡ true → Stands (doActs m new) (applyActs t new)
-stands-then {m} S new f =
-    let A = acted-all m new (S .holding) (rw (S .table) f) in
-    record { holding = A .holding; table = rw (← S .table) (A .table) }
-
-pub table-in : {m : List ℕ} {t : Table} → Stands m t → tableIn m ≡ ok t
-table-in {m} S = a-table m (S .holding) ∙ ap ok (S .table)
-
 -- ---- a main goes on
 
 -- calls with these acts, messages and lines
@@ -347,31 +316,17 @@ pub followed-image : (choosing : Choosing) {Arriving : Promise} {sent came : Lis
     (tableAfter (nextImage choosing t s i) t) (numbersOf (nextImage choosing t s i) s)
 followed-image choosing {s = s} F i member W v = followed-load F i member _ v (brings choosing (F .stands) s W)
 
--- ---- memory and spaces
-
--- a list of this length
-pub spaceOf : ℕ → List ℕ
-spaceOf n = replicate n 0
-
-pub length-space : (n : ℕ) → length (spaceOf n) ≡ n
-unfolding spaceOf
-length-space n = length-replicate n 0
+-- ---- memory
 
 bytes-space : (n : ℕ) → Bytes (spaceOf n)
 unfolding spaceOf
 bytes-space zero = bytes-none
 bytes-space (suc n) = bytes-cons (omega arith) (bytes-space n)
 
-pub freshMemory : List ℕ
-freshMemory = put fresh (spaceOf tableBytes)
+pub is-fresh : IsFresh (tableMemory fresh)
+unfolding isTable pathBytes every marksOf present any
+is-fresh = let S = memory-stands fresh refl in record { holding = S .holding; table = S .table }
 
-pub is-fresh : IsFresh freshMemory
-unfolding freshMemory isTable pathBytes every marksOf present any
-is-fresh = record {
-  holding = holds-put fresh (spaceOf tableBytes) refl (omega (arith, length-space tableBytes));
-  table = tableOf-put fresh (spaceOf tableBytes);
-}
-
-pub fresh-bytes : Bytes freshMemory
-unfolding freshMemory isTable pathBytes every marksOf present any
+pub fresh-bytes : Bytes (tableMemory fresh)
+unfolding tableMemory isTable pathBytes every marksOf present any
 fresh-bytes = put-bytes fresh (bytes-space tableBytes) refl no-entry

@@ -44,6 +44,7 @@ use Rattle.table.specs.Carrying.{linked, usedUp, past, carryCause, actsOf, outc
 use Rattle.table.specs.Calls.{recordSpace, atLeastOne, recordRoom, knownSwitches, carried, switchesCall, insertCall}
 use Rattle.table.specs.Calls as table-calls
 use Rattle.table.proofs.CallLaws.{fresh-long, room-long}
+use Rattle.table.proofs.StandingLaws.{allFit, table-in, spaceOf, length-space, tableMemory}
 use Rattle.walk.specs.declared.PermissionState.the-variants.{Granted, Prompt, Denied}
 use Rattle.walk.specs.declared.Answer.the-variants as answer
 use Rattle.walk.specs.Walk.{
@@ -153,8 +154,6 @@ use Rattle.handover.proofs.StepLaws.{
   revoke-steps,
   child-steps,
   query-steps,
-  allFit,
-  table-in,
   Run,
   run-fresh,
   run-then,
@@ -164,9 +163,6 @@ use Rattle.handover.proofs.StepLaws.{
   followed-record,
   tableAfter,
   followed-image,
-  spaceOf,
-  length-space,
-  freshMemory,
   is-fresh,
   fresh-bytes,
 }
@@ -360,7 +356,7 @@ module _ (L : Lent) where
 
 lent : Lent
 lent = record {
-  memory = freshMemory;
+  memory = tableMemory fresh;
   text = spaceOf textBytes;
   words = spaceOf (recordSpace * 2);
   child = spaceOf tableBytes;

@@ -13,6 +13,7 @@ use Rattle.table.specs.declared.Numbering.the-variants as numbering
 use Rattle.table.specs.Carrying.{linked, usedUp, carryCause, outcomeOf}
 use Rattle.table.specs.Calls.{recordSpace, recordRoom, knownSwitches, carried, switchesCall}
 use Rattle.table.specs.Calls as table-calls
+use Rattle.table.proofs.StandingLaws.{allFit, table-in, spaceOf, length-space}
 use Rattle.records.specs.Records.{
   Change,
   actNumber,
@@ -85,8 +86,6 @@ use Rattle.handover.specs.Wrong.{
 use Rattle.handover.proofs.MainLaws.{main-is}
 use Rattle.handover.proofs.StepLaws.{
   switches-steps,
-  allFit,
-  table-in,
   Run,
   run-fresh,
   run-then,
@@ -99,8 +98,6 @@ use Rattle.handover.proofs.StepLaws.{
   brings,
   followed-load,
   followed-image,
-  spaceOf,
-  length-space,
   is-fresh,
   fresh-bytes,
 }

@@ -11,6 +11,7 @@ use borrow.Author.Tests.{lt-ltb, le-ltb}
 use Rattle.refusals.specs.declared.Refusal.{Refusal}
 use Rattle.refusals.specs.declared.Refusal.the-variants.{NoTable, NoSpace, Unknown}
 use Rattle.refusals.specs.Refusals.{firstCause, Result, refused, ok, andThen, unless, causeOf}
+use Rattle.refusals.proofs.CauseLaws.{Hands}
 use Rattle.paths.specs.declared.Descriptor.the-variants.{Path}
 use Rattle.paths.specs.Copying.{overwrite}
 use Rattle.paths.specs.Giving.{resolved, queryOf, given}
@@ -21,7 +22,7 @@ use Rattle.table.specs.declared.Numbering.the-variants.{Plain, After}
 use Rattle.table.specs.declared.Outcome.{Outcome}
 use Rattle.table.specs.declared.Outcome.the-variants.{Done, Refused}
 use Rattle.table.specs.Entries.{kindOf, knownKind}
-use Rattle.table.specs.Tables.{fresh, maxSwitches}
+use Rattle.table.specs.Tables.{Table, fresh, maxSwitches}
 use Rattle.table.specs.Acts.{Act, insert, setSwitches}
 use Rattle.table.specs.Memory.{tableBytes, tableOf, holds, encode, encodeAll, put, doActs}
 use Rattle.table.specs.Carrying.{Link, plain, linked, carryCause, actsOf, outcomeOf, CarriesOut}
@@ -52,6 +53,11 @@ module _ (m : List ℕ) where
   pub a-table : holds m ≡ true → tableIn m ≡ ok (tableOf m)
   unfolding tableIn firstCause unless
   a-table h = rw h
+
+  -- what a checking order hands on whose first step this is
+  pub hands-table : {A : Type 0} {P : A → Type 0} (f : Table → Result A) → holds m ≡ true → Hands P (f (tableOf m)) → Hands P (andThen (tableIn m) f)
+  unfolding andThen
+  hands-table f h H = rw (a-table h) H
 
   pub fresh-short : length m < tableBytes → freshIn m ≡ refused NoTable
   unfolding freshIn firstCause unless

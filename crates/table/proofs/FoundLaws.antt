@@ -1,4 +1,4 @@
--- An insert that finds its entry finds one of its kind, so an insert that has room keeps a table within its limits.
+-- An insert that finds its entry finds one with its path and kind, so an insert that has room keeps a table within its limits.
 use Prim.Native.Nat.{ℕ, zero, suc, _<_}
 use mathlib.Core.Path.{_≡_, refl, sym, ap, ap₂, _∙_}
 use mathlib.Core.List.{List, [], _∷_}
@@ -71,11 +71,11 @@ path-same p q e =
     rw (turn-same (inTurn numberOrder) (turn-same numberOrder number-same) (components p) (components q) e)
     (and-both (prefix-refl q) (prefix-refl q))
 
--- ---- what a comparison of 0 says: the kinds are the same
+-- ---- what a comparison of 0 says: paths and kinds are the same
 
 alike-same : (same deeper higher : Bool) (n o : ℤ) → (o ≡ equal → same ≡ true)
-    → cond same n (cond deeper less (cond higher greater o)) ≡ equal → n ≡ equal
-alike-same true deeper higher n o h e = e
+    → cond same n (cond deeper less (cond higher greater o)) ≡ equal → (same ≡ true) × (n ≡ equal)
+alike-same true deeper higher n o h e = (refl, e)
 alike-same false true higher n o h e = absurd (less-unequal e)
 alike-same false false true n o h e = absurd (greater-unequal e)
 alike-same false false false n o h e = absurd (false≢true (h e))
@@ -103,17 +103,19 @@ precedence-back D = refl
 precedence-back P = refl
 precedence-back I = refl
 
-pub compare-kinds : (old new : Entry) → compare old new ≡ equal → old .kind ≡ new .kind
+pub compare-same : (old new : Entry) → compare old new ≡ equal → (samePath (old .path) (new .path) ≡ true) × (old .kind ≡ new .kind)
 unfolding compare grantedOrder compareAlike
-compare-kinds old new e =
+compare-same old new e =
     let same = samePath (old .path) (new .path) in
     let deeper = strictlyExtends (old .path) (new .path) in
     let higher = strictlyExtends (new .path) (old .path) in
     let alike = kinds-same (isGranted (old .kind)) (isGranted (new .kind)) deeper higher (compareAlike old new) e in
-    let order = alike-same same deeper higher _ _ (path-same (old .path) (new .path)) alike in
-    sym (precedence-back (old .kind))
-    ∙ ap byPrecedence (number-same (kindPrecedence (old .kind)) (kindPrecedence (new .kind)) order)
-    ∙ precedence-back (new .kind)
+    let both = alike-same same deeper higher _ _ (path-same (old .path) (new .path)) alike in (
+      both .0,
+      sym (precedence-back (old .kind))
+          ∙ ap byPrecedence (number-same (kindPrecedence (old .kind)) (kindPrecedence (new .kind)) (both .1))
+          ∙ precedence-back (new .kind),
+    )
 
 -- ---- an entry that is Found
 
@@ -129,15 +131,22 @@ by-found base (pos zero) e = refl
 by-found base (pos (suc n)) e = cc
 by-found base (negsuc n) e = cc
 
-pub found-present : (es : List Entry) (new : Entry) → place es new ≡ Found → present (new .kind) es ≡ true
-unfolding place present search
-found-present [] new e = cc
-found-present (x ∷ es) new e =
+-- what is so of every entry with its path and kind is so of one in the list
+pub found-any : (f : Entry → Bool) (es : List Entry) (new : Entry) → place es new ≡ Found
+    → ((old : Entry) → samePath (old .path) (new .path) ≡ true → old .kind ≡ new .kind → f old ≡ true) → any f es ≡ true
+unfolding place search
+found-any f [] new e h = cc
+found-any f (x ∷ es) new e h =
     let base = search (x ∷ es) new in
     let n = length (x ∷ es) in
     let inside : base < n = omega (arith, search-inside (x ∷ es) new n 0 n (omega arith)) in
-    let kinds = compare-kinds (getD (x ∷ es) base new) new (by-found base _ e) in
-    any-at _ (x ∷ es) base new inside (eq-eqb _ _ (ap kindNumber kinds))
+    let old = getD (x ∷ es) base new in
+    let same = compare-same old new (by-found base _ e) in
+    any-at f (x ∷ es) base new inside (h old (same .0) (same .1))
+
+pub found-present : (es : List Entry) (new : Entry) → place es new ≡ Found → present (new .kind) es ≡ true
+unfolding present
+found-present es new e = found-any _ es new e (λ old p k. eq-eqb _ _ (ap kindNumber k))
 
 -- an insert that does not overflow keeps a table within its limits
 pub table-placed : (t : Table) (e : Entry) → isTable t ≡ true → isEntry e ≡ true → overflows t e ≡ false → isTable (inserted t e) ≡ true

@@ -20,3 +20,4 @@ pub mod CallLaws
 pub mod ListingLaws
 pub mod TableCopies
 pub mod KeepLaws
+pub mod StandingLaws

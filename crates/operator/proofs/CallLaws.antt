@@ -1,0 +1,284 @@
+-- What a call of a script decides and leaves: an operator who says no keeps a path shut, and a yes opens it.
+use Prim.Native.Nat.{ℕ}
+use mathlib.Core.Path.{_≡_, refl, sym, ap, _∙_}
+use mathlib.Core.List.{List}
+use mathlib.Core.Option.{Option, none, some}
+use mathlib.Core.Bool.{Bool, true, false, cond, true≢false, false≢true}
+use borrow.Author.Tests.{not-true}
+use Rattle.refusals.specs.Refusals.{Result, andThen}
+use Rattle.refusals.proofs.CauseLaws.{Hands, stops, hands, hands-itself, hands-then, hands-unless}
+use Rattle.paths.specs.declared.Descriptor.{Descriptor}
+use Rattle.paths.specs.declared.Descriptor.the-variants.{NoPath, Path}
+use Rattle.paths.specs.Resolving.{resolve}
+use Rattle.paths.specs.Relations.{isPrefix}
+use Rattle.paths.specs.Giving.{Query, noPath, path, queryOf, resolved, given}
+use Rattle.table.specs.declared.Kind.the-variants.{G, P}
+use Rattle.table.specs.Tables.{Table, has, prompt, granted, promptDenied, flagIgnored}
+use Rattle.table.specs.Acts.{Act, insert, applyAct, applyActs}
+use Rattle.table.specs.Memory.{tableOf, holds, doActs}
+use Rattle.table.specs.Carrying.{Link, actsOf}
+use Rattle.table.specs.Calls.{recordRoom}
+use Rattle.table.proofs.BitLaws.{bit-kept}
+use Rattle.table.proofs.ActLaws.{Acted}
+use Rattle.table.proofs.CallLaws.{hands-table}
+use Rattle.walk.specs.declared.PermissionState.{PermissionState}
+use Rattle.walk.specs.declared.PermissionState.the-variants.{
+  Granted,
+  GrantedPartial,
+  Prompt,
+  Denied,
+  DeniedPartial,
+  Ignored,
+}
+use Rattle.walk.specs.declared.AllowPartial.{AllowPartial}
+use Rattle.walk.specs.declared.AllowPartial.the-variants.{TreatAsPartialGranted}
+use Rattle.walk.specs.Walk.{matchesKind, matches, isDeniedMode, isDenied, withoutMatch, queryDesc, isAllowAll}
+use Rattle.calls.specs.declared.PromptResponse.{PromptResponse}
+use Rattle.calls.specs.declared.PromptResponse.the-variants.{Deny, Allow, AllowAll}
+use Rattle.calls.specs.declared.ResponseRead.{ResponseRead}
+use Rattle.calls.specs.declared.ResponseRead.the-variants.{Response, Unknown}
+use Rattle.calls.specs.declared.Call.{Call}
+use Rattle.calls.specs.declared.Call.the-variants.{Check, Request}
+use Rattle.calls.specs.Decisions.{
+  responseOf,
+  knownResponse,
+  switchOn,
+  grantAct,
+  denyAct,
+  answerAct,
+  Decision,
+  unasked,
+  asks,
+  checkMode,
+  checkBy,
+  checkDesc,
+  requestBy,
+  requestDesc,
+  decide,
+}
+use Rattle.calls.specs.Calls.{carriedOut, actsIn, askedIn, settled, textSpace, askCall, revokeAct, revokeDesc, revokeCall}
+use Rattle.calls.proofs.KeepLaws.{ask-acted, revoke-acted}
+use Rattle.calls.proofs.AskLaws.{ask-no-table}
+use Rattle.operator.specs.Operator.{isOpen, stateOf, Shut, Open, saysNo, Answered}
+use Rattle.operator.proofs.OpenLaws.{granted-below}
+use Rattle.operator.proofs.ActLaws.{shut-insert, shut-revoke, shut-revoke-all, shut-eight, shut-same, open-grant}
+
+-- ---- what check and request decide: whether they ask, and their act
+
+data Comes (t : Table) (q : Query) (response : PromptResponse) : Bool → Option Act → Type 0 where
+  silent : Comes t q response false none
+  asking : (mode : AllowPartial) → queryDesc t mode q ≡ Prompt → Comes t q response true (some (answerAct t q response))
+  -- a request for what is Granted inserts it without asking
+  again : queryDesc t TreatAsPartialGranted q ≡ Granted → Comes t q response false (some (grantAct t q))
+
+module _ (t : Table) (q : Query) (response : PromptResponse) where
+  abbrev Decided : Decision → Type 0
+  Decided decision = Comes t q response (decision .asked) (decision .act)
+
+  by-prompt : (b : Bool) (mode : AllowPartial) (state : PermissionState) (writes : Bool) → queryDesc t mode q ≡ Prompt
+      → Decided (cond b (asks t q response) (unasked state writes))
+  unfolding asks unasked
+  by-prompt true mode state writes e = asking mode e
+  by-prompt false mode state writes e = silent
+
+  check-by : (mode : AllowPartial) (state : PermissionState) → queryDesc t mode q ≡ state → Decided (checkBy t q response state)
+  unfolding checkBy unasked
+  check-by mode Granted e = silent
+  check-by mode GrantedPartial e = silent
+  check-by mode Prompt e = by-prompt (has (t .switches) prompt) mode Prompt true e
+  check-by mode Denied e = silent
+  check-by mode DeniedPartial e = silent
+  check-by mode Ignored e = silent
+
+  check-all : (b : Bool) (decision : Decision) → Decided decision → Decided (cond b (unasked Granted false) decision)
+  unfolding unasked
+  check-all true decision D = silent
+  check-all false decision D = D
+
+  request-by : (state : PermissionState) → queryDesc t TreatAsPartialGranted q ≡ state → Decided (requestBy t q response state)
+  unfolding requestBy unasked
+  request-by Granted e = again e
+  request-by GrantedPartial e = silent
+  request-by Prompt e = by-prompt (has (t .switches) prompt) TreatAsPartialGranted Denied false e
+  request-by Denied e = silent
+  request-by DeniedPartial e = silent
+  request-by Ignored e = silent
+
+  decided : (call : Call) → Decided (decide call t q response)
+  unfolding decide checkDesc requestDesc
+  decided Check = check-all (isAllowAll t) _ (check-by (checkMode q) _ refl)
+  decided Request = request-by _ refl
+
+-- ---- where p is shut, what is decided keeps it so
+
+without-one : (i d g : Bool) (s : PermissionState) → cond i Ignored (cond d Denied (cond g s Prompt)) ≡ Granted → g ≡ true
+without-one true d g s e = cc
+without-one false true g s e = cc
+without-one false false true s e = refl
+without-one false false false s e = cc
+
+-- no path is Granted only by switch 1
+none-granted : (t : Table) → queryDesc t TreatAsPartialGranted noPath ≡ Granted → has (t .switches) granted ≡ true
+unfolding queryDesc withoutMatch isDeniedMode
+none-granted t e = without-one (has (t .switches) flagIgnored) (isDenied t noPath) (has (t .switches) granted) _ e
+
+module _ (t : Table) (p : List ℕ) (shut : isOpen (stateOf t p) ≡ false) where
+  deny-shut : (q : Query) → isOpen (stateOf (applyAct t (denyAct t q)) p) ≡ false
+  unfolding denyAct switchOn
+  deny-shut noPath = shut-eight t p shut
+  deny-shut (path q) = shut-insert t p shut (record { kind = P; path = q }) (λ m. refl)
+
+  -- a G that is no prefix of p
+  beside-shut : (q : List ℕ) → isPrefix q p ≡ false → isOpen (stateOf (applyAct t (insert (record { kind = G; path = q }))) p) ≡ false
+  unfolding matches matchesKind
+  beside-shut q n = shut-insert t p shut (record { kind = G; path = q }) (λ m. absurd (true≢false (sym m ∙ n)))
+
+  allow-shut : (q : Query) → saysNo p q Allow ≡ true → isOpen (stateOf (applyAct t (grantAct t q)) p) ≡ false
+  unfolding saysNo grantAct
+  allow-shut noPath e = absurd (false≢true e)
+  allow-shut (path q) e = beside-shut q (not-true _ e)
+
+  answer-shut : (q : Query) (response : PromptResponse) → saysNo p q response ≡ true → isOpen (stateOf (applyAct t (answerAct t q response)) p) ≡ false
+  unfolding answerAct
+  answer-shut q Deny e = deny-shut q
+  answer-shut q Allow e = allow-shut q e
+  answer-shut q AllowAll e = absurd (false≢true (unfold saysNo in e))
+
+  -- what is Granted already is no prefix of p, so that a request inserts it in vain
+  again-by : (q : List ℕ) (b : Bool) → isPrefix q p ≡ b → stateOf t q ≡ Granted → isOpen (stateOf (applyAct t (insert (record { kind = G; path = q }))) p) ≡ false
+  unfolding isOpen
+  again-by q true h e = absurd (true≢false (sym (ap isOpen (granted-below t q p h e)) ∙ shut))
+  again-by q false h e = beside-shut q h
+
+  again-shut : (q : Query) → queryDesc t TreatAsPartialGranted q ≡ Granted → isOpen (stateOf (applyAct t (grantAct t q)) p) ≡ false
+  unfolding grantAct switchOn
+  again-shut noPath e = shut-same t p shut _ (bit-kept (t .switches) granted (none-granted t e))
+  again-shut (path q) e = again-by q _ refl e
+
+  revoked-shut : (q : Query) → isOpen (stateOf (applyAct t (revokeAct q)) p) ≡ false
+  unfolding revokeAct
+  revoked-shut noPath = shut-revoke-all t p shut
+  revoked-shut (path q) = shut-revoke t p shut q
+
+  comes-shut : {q : Query} {response : PromptResponse} {asked : Bool} {act : Option Act} → Comes t q response asked act
+      → (asked ≡ true → saysNo p q response ≡ true) → isOpen (stateOf (applyActs t (actsOf none act)) p) ≡ false
+  unfolding actsOf applyActs
+  comes-shut silent f = shut
+  comes-shut {q} {response} (asking mode e) f = answer-shut q response (f refl)
+  comes-shut {q} (again e) f = again-shut q e
+
+-- ---- a yes
+
+comes-open : {t : Table} {p : List ℕ} {asked : Bool} {act : Option Act} → Comes t (path p) Allow asked act → asked ≡ true
+    → isOpen (stateOf (applyActs t (actsOf none act)) p) ≡ true
+unfolding actsOf applyActs answerAct grantAct
+comes-open silent a = absurd (false≢true a)
+comes-open {t} {p} (asking mode e) a = open-grant p t mode e
+comes-open (again e) a = absurd (false≢true a)
+
+-- ---- what the calls come to
+
+given-is : (d : Descriptor) (p cwd : List ℕ) → Hands (λ q. queryOf d (resolve p cwd) ≡ q) (given d p cwd)
+unfolding given resolved queryOf
+given-is NoPath p cwd = hands refl
+given-is Path p cwd = hands-then (hands-unless {P = λ q. resolve p cwd ≡ q} _ _ (λ e. refl)) (λ q e. hands (ap path e))
+
+known-is : (read : ResponseRead) → Hands (λ answer. read ≡ Response answer) (knownResponse read)
+unfolding knownResponse
+known-is (Response answer) = hands refl
+known-is Unknown = stops
+
+-- check and request on the table t, of q, with the answer that a number names
+record Answers (t : Table) (q : Query) (response : ℕ) (decision : Decision) : Type 0 where
+  answer : PromptResponse
+  known : responseOf response ≡ Response answer
+  comes : Comes t q answer (decision .asked) (decision .act)
+
+-- a revoke
+Revoked : Query → Decision → Type 0
+Revoked q decision = decision .act ≡ some (revokeAct q)
+
+module _ (link : Link) (m : List ℕ) (d : Descriptor) (p cwd : List ℕ) (h : holds m ≡ true) where
+  ask-comes : (call : Call) (s : List ℕ) (response : ℕ) → Hands (Answers (tableOf m) (queryOf d (resolve p cwd)) response) (askCall call link m s d p cwd response)
+  unfolding askCall settled carriedOut
+  ask-comes call s response =
+      hands-table m _ h (
+      hands-then (hands-itself (textSpace s)) (λ space _.
+      hands-then (hands-itself (recordRoom 1 link)) (λ numbers _.
+      hands-then (known-is (responseOf response)) (λ answer known.
+      hands-then (given-is d p cwd) (λ q e.
+      hands-unless _ _ (λ _. record { answer = answer; known = known; comes = rw e (decided (tableOf m) q answer call) }))))))
+
+  revoke-comes : Hands (Revoked (queryOf d (resolve p cwd))) (revokeCall link m d p cwd)
+  unfolding revokeCall carriedOut revokeDesc Revoked
+  revoke-comes =
+      hands-table m _ h (
+      hands-then (hands-itself (recordRoom 1 link)) (λ numbers _.
+      hands-then (given-is d p cwd) (λ q e.
+      hands-unless _ _ (λ _. rw e))))
+
+-- ---- and what they leave, by their acts
+
+module _ (t : Table) (p : List ℕ) where
+  acts-shut : {c : Result Decision} → isOpen (stateOf t p) ≡ false → Hands (λ decision. isOpen (stateOf (applyActs t (actsOf none (decision .act))) p) ≡ false) c
+      → isOpen (stateOf (applyActs t (actsIn c)) p) ≡ false
+  unfolding actsIn applyActs
+  acts-shut shut stops = shut
+  acts-shut shut (hands x) = x
+
+  answers-shut : {q : Query} {response : ℕ} {c : Result Decision} → isOpen (stateOf t p) ≡ false → Answered (saysNo p) (askedIn c) q response
+      → Hands (Answers t q response) c → Hands (λ decision. isOpen (stateOf (applyActs t (actsOf none (decision .act))) p) ≡ false) c
+  unfolding askedIn
+  answers-shut shut f stops = stops
+  answers-shut shut f (hands A) = hands (comes-shut t p shut (A .comes) (λ e. f e (A .answer) (A .known)))
+
+  revoked-acts : (q : Query) {c : Result Decision} → isOpen (stateOf t p) ≡ false → Hands (Revoked q) c
+      → Hands (λ decision. isOpen (stateOf (applyActs t (actsOf none (decision .act))) p) ≡ false) c
+  unfolding Revoked actsOf applyActs
+  revoked-acts q shut stops = stops
+  revoked-acts q shut (hands {x = decision} e) = hands {x = decision} (rw e (revoked-shut t p shut q))
+
+  answers-open : {response : ℕ} {c : Result Decision} → Hands (Answers t (path p) response) c → askedIn c ≡ true → responseOf response ≡ Response Allow
+      → isOpen (stateOf (applyActs t (actsIn c)) p) ≡ true
+  unfolding askedIn actsIn
+  answers-open stops a e = absurd (false≢true a)
+  answers-open (hands A) a e = let allow : A .answer ≡ Allow = cc (A .known, e) in comes-open (rw allow at (A .comes)) a
+
+module _ {p m m′ : List ℕ} (c : Result Decision) (A : Acted m (actsIn c)) (e : m′ ≡ doActs m (actsIn c)) where
+  left-shut : isOpen (stateOf (applyActs (tableOf m) (actsIn c)) p) ≡ false → Shut p m′
+  left-shut x = record { holding = rw e (A .holding); state = rw (e, A .table) x }
+
+  left-open : isOpen (stateOf (applyActs (tableOf m) (actsIn c)) p) ≡ true → Open p m′
+  left-open x = record { holding = rw e (A .holding); state = rw (e, A .table) x }
+
+module _ (call : Call) (link : Link) (m s : List ℕ) (d : Descriptor) (p cwd : List ℕ) (response : ℕ) where
+  abbrev c : Result Decision
+  c = askCall call link m s d p cwd response
+
+  pub ask-shut : {x m′ : List ℕ} {asked : Bool} → m′ ≡ doActs m (actsIn c) → asked ≡ askedIn c
+      → Answered (saysNo x) asked (queryOf d (resolve p cwd)) response → Shut x m → Shut x m′
+  ask-shut e a f S =
+      left-shut c (ask-acted call link m s d p cwd response (S .holding)) e
+      (acts-shut (tableOf m) _ (S .state) (answers-shut (tableOf m) _ (S .state) (λ k. f (a ∙ k)) (ask-comes link m d p cwd (S .holding) call s response)))
+
+  -- a call that asked was lent a table
+  asked-held : (b : Bool) → holds m ≡ b → askedIn c ≡ true → holds m ≡ true
+  unfolding askedIn
+  asked-held true h a = h
+  asked-held false h a = absurd (false≢true (rw (ask-no-table call link m s d p cwd response h) at a))
+
+pub ask-open : (call : Call) (link : Link) (m s p cwd : List ℕ) (response : ℕ) {x m′ : List ℕ} {asked : Bool}
+    → m′ ≡ doActs m (actsIn (askCall call link m s Path p cwd response)) → asked ≡ askedIn (askCall call link m s Path p cwd response)
+    → resolve p cwd ≡ x → asked ≡ true → responseOf response ≡ Response Allow → Open x m′
+unfolding queryOf
+ask-open call link m s p cwd response e a is told allow =
+    let asked = sym a ∙ told in
+    let h = asked-held call link m s Path p cwd response (holds m) refl asked in
+    left-open _ (ask-acted call link m s Path p cwd response h) e
+    (answers-open (tableOf m) _ (rw is at (ask-comes link m Path p cwd h call s response)) asked allow)
+
+pub revoke-shut : (link : Link) (m : List ℕ) (d : Descriptor) (p cwd : List ℕ) {x m′ : List ℕ} → m′ ≡ doActs m (actsIn (revokeCall link m d p cwd))
+    → Shut x m → Shut x m′
+revoke-shut link m d p cwd e S =
+    left-shut _ (revoke-acted link m d p cwd (S .holding)) e
+    (acts-shut (tableOf m) _ (S .state) (revoked-acts (tableOf m) _ (queryOf d (resolve p cwd)) (S .state) (revoke-comes link m d p cwd (S .holding))))

@@ -1,0 +1,7 @@
+pub mod OpenLaws
+pub mod ActLaws
+pub mod CallLaws
+pub mod Operator
+pub mod StepLaws
+pub mod Needed
+pub mod Wrong

@@ -1,0 +1,162 @@
+-- The operator against the script: whether saying no is enough. Scope, "The operator against the script".
+--
+-- A script makes any calls, from any memory that holds a table: its list in any order, with or without duplicates, whatever switches are set. Each step is a
+-- call's own promise, the one that its `ensures` cites, refused or not. `OperatorAgainstScript` says what an operator keeps shut who says no, and that a yes opens.
+use Prim.Native.Nat.{ℕ}
+use mathlib.Core.Path.{_≡_}
+use mathlib.Core.List.{List}
+use mathlib.Core.Bool.{Bool, true, false, not}
+use Rattle.refusals.specs.Refusals.{ok}
+use Rattle.paths.specs.declared.Descriptor.{Descriptor}
+use Rattle.paths.specs.declared.Descriptor.the-variants.{Path}
+use Rattle.paths.specs.Resolving.{resolve}
+use Rattle.paths.specs.Relations.{isPrefix}
+use Rattle.paths.specs.Giving.{Query, noPath, path, queryOf, resolved}
+use Rattle.table.specs.Tables.{Table}
+use Rattle.table.specs.Memory.{tableOf, holds}
+use Rattle.walk.specs.declared.PermissionState.{PermissionState}
+use Rattle.walk.specs.declared.PermissionState.the-variants.{
+  Granted,
+  GrantedPartial,
+  Prompt,
+  Denied,
+  DeniedPartial,
+  Ignored,
+}
+use Rattle.walk.specs.declared.AllowPartial.the-variants.{TreatAsPartialGranted}
+use Rattle.walk.specs.declared.Answer.{Answer}
+use Rattle.walk.specs.declared.Answer.the-variants.{State}
+use Rattle.walk.specs.Walk.{modeNumber, queryDesc}
+use Rattle.walk.specs.Calls.{queryAnswer}
+use Rattle.calls.specs.declared.PromptResponse.{PromptResponse}
+use Rattle.calls.specs.declared.PromptResponse.the-variants.{Deny, Allow, AllowAll}
+use Rattle.calls.specs.declared.ResponseRead.the-variants.{Response}
+use Rattle.calls.specs.declared.Call.{Call}
+use Rattle.calls.specs.declared.Asked.{Asked}
+use Rattle.calls.specs.Decisions.{responseOf}
+use Rattle.calls.specs.Calls.{Asks, Revokes}
+use Rattle.link.specs.declared.AskSent.{AskSent}
+use Rattle.link.specs.declared.RevokeSent.{RevokeSent}
+use Rattle.link.specs.Linked.{LinkedAsks, LinkedRevokes}
+
+-- ---- the path
+
+-- Granted or GrantedPartial
+unfoldable pub isOpen : PermissionState → Bool
+isOpen Granted = true
+isOpen GrantedPartial = true
+isOpen Prompt = false
+isOpen Denied = false
+isOpen DeniedPartial = false
+isOpen Ignored = false
+
+-- what query in mode partial gives the path p, on the table t
+abbrev pub stateOf : Table → List ℕ → PermissionState
+stateOf t p = queryDesc t TreatAsPartialGranted (path p)
+
+-- memory holds a table, and query in mode partial gives p neither Granted nor GrantedPartial
+pub record Shut (p m : List ℕ) : Type 0 where
+  pub holding : holds m ≡ true
+  pub state : isOpen (stateOf (tableOf m) p) ≡ false
+
+-- memory holds a table, and query in mode partial gives p Granted or GrantedPartial
+pub record Open (p m : List ℕ) : Type 0 where
+  pub holding : holds m ≡ true
+  pub state : isOpen (stateOf (tableOf m) p) ≡ true
+
+-- ---- the operator
+
+-- which answers an operator may give to what is asked about
+abbrev pub Operator : Type 0
+Operator = Query → PromptResponse → Bool
+
+-- who never answers Allow for a prefix of p, nor for the call with no path, and never AllowAll
+unfoldable pub saysNo : List ℕ → Operator
+saysNo p q Deny = true
+saysNo p noPath Allow = false
+saysNo p (path q) Allow = not (isPrefix q p)
+saysNo p q AllowAll = false
+
+-- A call was handed the number `response` for the operator's answer. Where it asked about q, the answer that the number names is one that the operator may give;
+-- where it did not ask, as a refused call never does, nobody gave an answer, and the number may be any.
+abbrev pub Answered : Operator → Bool → Query → ℕ → Type 0
+Answered operator asked q response = asked ≡ true → (answer : PromptResponse) → responseOf response ≡ Response answer → operator q answer ≡ true
+
+-- ---- what the calls promise: check and request, revoke, and the linked ones
+
+pub record Promises : Type 1 where
+  pub asks : (call : Call) (m s : List ℕ) (d : Descriptor) (p cwd : List ℕ) (response : ℕ) (m′ s′ : List ℕ) (r : Asked) → Type 0
+  pub revokes : (m : List ℕ) (d : Descriptor) (p cwd m′ : List ℕ) (r : Answer) → Type 0
+  pub linkedAsks : (call : Call) (m : List ℕ) (n : ℕ) (s w : List ℕ) (d : Descriptor) (p cwd : List ℕ) (response : ℕ) (m′ : List ℕ) (n′ : ℕ)
+      (s′ w′ : List ℕ) (r : AskSent) → Type 0
+  pub linkedRevokes : (m : List ℕ) (n : ℕ) (w : List ℕ) (d : Descriptor) (p cwd m′ : List ℕ) (n′ : ℕ) (w′ : List ℕ) (r : RevokeSent) → Type 0
+
+-- their own
+abbrev pub promised : Promises
+promised = record { asks = Asks; revokes = Revokes; linkedAsks = LinkedAsks; linkedRevokes = LinkedRevokes }
+
+-- ---- the script
+
+-- One call of the script, plain or linked, with a path or without, by what it promises: memory m becomes m′, with whatever it is lent and handed, refused or not.
+pub data Step (P : Promises) (operator : Operator) (m m′ : List ℕ) : Type 0 where
+  -- a query is lent the memory for reading alone
+  queries : (mode : ℕ) (d : Descriptor) (given cwd : List ℕ) (r : Answer) → r ≡ queryAnswer m mode d given cwd
+      → m′ ≡ m
+      → Step P operator m m′
+  -- check and request
+  asks : (call : Call) (s : List ℕ) (d : Descriptor) (given cwd : List ℕ) (response : ℕ) (s′ : List ℕ) (r : Asked)
+      → P .asks call m s d given cwd response m′ s′ r
+      → Answered operator (r .asked) (queryOf d (resolve given cwd)) response
+      → Step P operator m m′
+  revokes : (d : Descriptor) (given cwd : List ℕ) (r : Answer)
+      → P .revokes m d given cwd m′ r
+      → Step P operator m m′
+  -- the same linked, after any number n and with any record space w
+  linkedAsks : (call : Call) (n : ℕ) (s w : List ℕ) (d : Descriptor) (given cwd : List ℕ) (response n′ : ℕ) (s′ w′ : List ℕ) (r : AskSent)
+      → P .linkedAsks call m n s w d given cwd response m′ n′ s′ w′ r
+      → Answered operator (r .answered .asked) (queryOf d (resolve given cwd)) response
+      → Step P operator m m′
+  linkedRevokes : (n : ℕ) (w : List ℕ) (d : Descriptor) (given cwd : List ℕ) (n′ : ℕ) (w′ : List ℕ) (r : RevokeSent)
+      → P .linkedRevokes m n w d given cwd m′ n′ w′ r
+      → Step P operator m m′
+
+-- steps one after the other, from memory m on
+pub data Script (Next : List ℕ → List ℕ → Type 0) (m : List ℕ) : List ℕ → Type 0 where
+  start : Script Next m m
+  thenCall : {m₁ m₂ : List ℕ} → Script Next m m₁ → Next m₁ m₂ → Script Next m m₂
+
+-- ---- a yes
+
+-- A check or request for p, as given and with its working directory, that asked and was answered Allow: memory m becomes m′. It was not refused, since a refused
+-- call did not ask.
+pub data Allowed (P : Promises) (p m m′ : List ℕ) : Type 0 where
+  allowed : (call : Call) (s given cwd : List ℕ) (response : ℕ) (s′ : List ℕ) (r : Asked)
+      → P .asks call m s Path given cwd response m′ s′ r
+      → resolve given cwd ≡ p
+      → r .asked ≡ true
+      → responseOf response ≡ Response Allow
+      → Allowed P p m m′
+  linkedAllowed : (call : Call) (n : ℕ) (s w given cwd : List ℕ) (response n′ : ℕ) (s′ w′ : List ℕ) (r : AskSent)
+      → P .linkedAsks call m n s w Path given cwd response m′ n′ s′ w′ r
+      → resolve given cwd ≡ p
+      → r .answered .asked ≡ true
+      → responseOf response ≡ Response Allow
+      → Allowed P p m m′
+
+-- ---- the claim
+
+-- a path that is shut stays so, whatever steps are made; which steps may be made hangs on the path
+abbrev pub KeepsShut : (List ℕ → List ℕ → List ℕ → Type 0) → Type 0
+KeepsShut Next = (p m m′ : List ℕ) → Script (Next p) m m′ → Shut p m → Shut p m′
+
+pub record Claim (P : Promises) : Type 0 where
+  -- the operator who says no keeps p shut for good
+  pub no : KeepsShut (λ p. Step P (saysNo p))
+  -- in turn, a yes opens p
+  pub yes : (p m m′ : List ℕ) → Allowed P p m m′ → Open p m′
+  -- `stateOf` is what the call query answers in mode partial, for every path as given that resolves to p
+  pub seen : (p m given cwd : List ℕ) → holds m ≡ true → resolved given cwd ≡ ok p
+      → queryAnswer m (modeNumber TreatAsPartialGranted) Path given cwd ≡ State (stateOf (tableOf m) p)
+
+abbrev pub OperatorAgainstScript : Type 0
+OperatorAgainstScript = Claim promised

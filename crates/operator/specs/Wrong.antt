@@ -1,0 +1,161 @@
+-- Wrong versions of check, request and revoke, each of which the claim rules out by itself. Scope, "The operator against the script".
+use Prim.Native.Nat.{ℕ}
+use mathlib.Core.Path.{_≡_}
+use mathlib.Core.List.{List}
+use mathlib.Core.Option.{none, some}
+use mathlib.Core.Bool.{Bool, true, false, _&&_, cond}
+use Rattle.refusals.specs.Refusals.{Result, ok, andThen}
+use Rattle.paths.specs.declared.Descriptor.{Descriptor}
+use Rattle.paths.specs.Relations.{isPrefix}
+use Rattle.paths.specs.Giving.{Query, noPath, path, given}
+use Rattle.table.specs.declared.Kind.{Kind}
+use Rattle.table.specs.declared.Kind.the-variants.{G, D, P, I}
+use Rattle.table.specs.Entries.{Entry}
+use Rattle.table.specs.Tables.{Table, has, prompt, marksOf}
+use Rattle.table.specs.Acts.{without, applyAct}
+use Rattle.table.specs.Memory.{doActs}
+use Rattle.table.specs.Carrying.{plain}
+use Rattle.table.specs.Calls.{tableIn, recordRoom, putIn}
+use Rattle.walk.specs.declared.PermissionState.{PermissionState}
+use Rattle.walk.specs.declared.PermissionState.the-variants.{
+  Granted,
+  GrantedPartial,
+  Prompt,
+  Denied,
+  DeniedPartial,
+  Ignored,
+}
+use Rattle.walk.specs.declared.AllowPartial.the-variants.{TreatAsPartialGranted}
+use Rattle.walk.specs.declared.Answer.{Answer}
+use Rattle.walk.specs.Walk.{queryDesc}
+use Rattle.walk.specs.Calls.{answerOf}
+use Rattle.calls.specs.declared.PromptResponse.{PromptResponse}
+use Rattle.calls.specs.declared.PromptResponse.the-variants.{Deny, Allow, AllowAll}
+use Rattle.calls.specs.declared.Call.{Call}
+use Rattle.calls.specs.declared.Call.the-variants.{Check, Request}
+use Rattle.calls.specs.declared.Asked.{Asked}
+use Rattle.calls.specs.Decisions.{responseOf, knownResponse, grantAct, answerAct, Decision, stateBy, requestBy, decide}
+use Rattle.calls.specs.Calls.{carriedOut, actsIn, textSpace, Answers, revokeAct, Revokes}
+use Rattle.calls.specs.Calls.{Asks}
+use Rattle.link.specs.Linked.{LinkedAsks, LinkedRevokes}
+use Rattle.operator.specs.Operator.{Promises, Claim}
+
+-- ---- check and request
+
+-- what a call decides of what is asked about
+abbrev pub Deciding : Type 0
+Deciding = Call → Table → Query → PromptResponse → Decision
+
+-- the checking order, with `deciding` for the decision; `askCall` is the one with `decide`
+abbrev pub askCallBy : Deciding → Call → List ℕ → List ℕ → Descriptor → List ℕ → List ℕ → ℕ → Result Decision
+askCallBy deciding call m s d p cwd response =
+    andThen (tableIn m) (λ t.
+    andThen (textSpace s) (λ space.
+    andThen (recordRoom 1 plain) (λ numbers.
+    andThen (knownResponse (responseOf response)) (λ known.
+    andThen (given d p cwd) (λ q.
+    carriedOut numbers t (deciding call t q known))))))
+
+-- `Asks` is the one with `decide`
+pub record AsksBy (deciding : Deciding) (call : Call) (m s : List ℕ) (d : Descriptor) (p cwd : List ℕ) (response : ℕ) (m′ s′ : List ℕ) (r : Asked) : Type 0 where
+  pub answers : Answers (askCallBy deciding call m s d p cwd response) d p cwd s s′ r
+  pub memory : m′ ≡ doActs m (actsIn (askCallBy deciding call m s d p cwd response))
+
+-- Deny inserts G
+unfoldable pub denyGrants : Deciding
+denyGrants call t q Deny =
+    let right = decide call t q Deny in
+    record { state = right .state; asked = right .asked; writes = right .writes; act = cond (right .asked) (some (grantAct t q)) (right .act) }
+denyGrants call t q Allow = decide call t q Allow
+denyGrants call t q AllowAll = decide call t q AllowAll
+
+-- a request inserts G though the state is GrantedPartial
+unfoldable pub partialGrants : Table → Query → PromptResponse → PermissionState → Decision
+partialGrants t q response Granted = requestBy t q response Granted
+partialGrants t q response GrantedPartial = record { state = GrantedPartial; asked = false; writes = false; act = some (grantAct t q) }
+partialGrants t q response Prompt = requestBy t q response Prompt
+partialGrants t q response Denied = requestBy t q response Denied
+partialGrants t q response DeniedPartial = requestBy t q response DeniedPartial
+partialGrants t q response Ignored = requestBy t q response Ignored
+
+unfoldable pub insertsPartial : Deciding
+insertsPartial Check t q response = decide Check t q response
+insertsPartial Request t q response = partialGrants t q response (queryDesc t TreatAsPartialGranted q)
+
+-- a request without switch 16 takes the answer that it was handed, and says that it did not ask
+unfoldable pub takesUnasked : Table → Query → PromptResponse → PermissionState → Decision
+takesUnasked t q response Granted = requestBy t q response Granted
+takesUnasked t q response GrantedPartial = requestBy t q response GrantedPartial
+takesUnasked t q response Prompt = record {
+  state = stateBy response;
+  asked = has (t .switches) prompt;
+  writes = has (t .switches) prompt;
+  act = some (answerAct t q response);
+}
+takesUnasked t q response Denied = requestBy t q response Denied
+takesUnasked t q response DeniedPartial = requestBy t q response DeniedPartial
+takesUnasked t q response Ignored = requestBy t q response Ignored
+
+unfoldable pub answersUnasked : Deciding
+answersUnasked Check t q response = decide Check t q response
+answersUnasked Request t q response = takesUnasked t q response (queryDesc t TreatAsPartialGranted q)
+
+-- Allow inserts nothing
+unfoldable pub allowNothing : Deciding
+allowNothing call t q Deny = decide call t q Deny
+allowNothing call t q Allow =
+    let right = decide call t q Allow in
+    record { state = right .state; asked = right .asked; writes = right .writes; act = cond (right .asked) none (right .act) }
+allowNothing call t q AllowAll = decide call t q AllowAll
+
+-- ---- revoke
+
+-- the table that a revoke leaves
+abbrev pub Revoking : Type 0
+Revoking = Table → Query → Table
+
+abbrev pub revokedBy : Revoking → List ℕ → Descriptor → List ℕ → List ℕ → Result Table
+revokedBy revoking m d p cwd = andThen (tableIn m) (λ t. andThen (given d p cwd) (λ q. ok (revoking t q)))
+
+abbrev pub stateAfter : Revoking → List ℕ → Descriptor → List ℕ → List ℕ → Result PermissionState
+stateAfter revoking m d p cwd = andThen (tableIn m) (λ t. andThen (given d p cwd) (λ q. ok (queryDesc (revoking t q) TreatAsPartialGranted q)))
+
+-- `Revokes` is the one with `revokes`
+pub record RevokesBy (revoking : Revoking) (m : List ℕ) (d : Descriptor) (p cwd m′ : List ℕ) (r : Answer) : Type 0 where
+  pub answer : r ≡ answerOf (stateAfter revoking m d p cwd)
+  pub memory : m′ ≡ putIn (revokedBy revoking m d p cwd) m
+
+abbrev pub revokes : Revoking
+revokes t q = applyAct t (revokeAct q)
+
+-- a revoke of a path drops D too, and keeps the marks of what is left
+unfoldable pub isGrantedOrDenied : Kind → Bool
+isGrantedOrDenied G = true
+isGrantedOrDenied D = true
+isGrantedOrDenied P = false
+isGrantedOrDenied I = false
+
+unfoldable pub dropsDenied : Revoking
+dropsDenied t noPath = revokes t noPath
+dropsDenied t (path q) =
+    let left = without (λ e. isGrantedOrDenied (e .kind) && isPrefix (e .path) q) (t .entries) in
+    record { entries = left; switches = t .switches; marks = marksOf left }
+
+-- ---- what `proofs/Wrong.antt` shows
+
+-- the calls' own promises, but for plain check and request, or for the plain revoke
+abbrev pub asking : Deciding → Promises
+asking deciding = record { asks = AsksBy deciding; revokes = Revokes; linkedAsks = LinkedAsks; linkedRevokes = LinkedRevokes }
+
+abbrev pub revoking : Revoking → Promises
+revoking by = record { asks = Asks; revokes = RevokesBy by; linkedAsks = LinkedAsks; linkedRevokes = LinkedRevokes }
+
+pub record RuledOut : Type 0 where
+  pub deny-grants : Claim (asking denyGrants) → ⊥
+  pub inserts-partial : Claim (asking insertsPartial) → ⊥
+  pub answers-unasked : Claim (asking answersUnasked) → ⊥
+  pub allow-nothing : Claim (asking allowNothing) → ⊥
+  pub drops-denied : Claim (revoking dropsDenied) → ⊥
+  -- the right ones, in the same form, meet it
+  pub asking-right : Claim (asking decide)
+  pub revoking-right : Claim (revoking revokes)

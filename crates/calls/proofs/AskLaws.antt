@@ -250,6 +250,18 @@ module _ {call : Call} {m s : List ℕ} {d : Descriptor} {p cwd : List ℕ} {res
         → Finishes state asked writes d p (take n z′) s s′ a → Asks call m s d p cwd response m′ s′ a
     asks-finished f F = record { answers = answers-finished e S f F; memory = rw e (S .memory) }
 
+-- ---- the promises settle everything, so that any call has an outcome; c is what the call comes to
+
+abbrev pub resultOf : Result Decision → Descriptor → List ℕ → List ℕ → Asked
+resultOf c d p cwd = record { answer = answerIn c; asked = askedIn c; text = length (textDue c d p cwd) }
+
+pub answers-of : {c call : Result Decision} (d : Descriptor) (p cwd s : List ℕ) → call ≡ c → Answers call d p cwd s (begun (textDue c d p cwd) s) (resultOf c d p cwd)
+answers-of d p cwd s e = record { answer = rw e; asked = rw e; size = rw e; space = rw e }
+
+pub asks-of : (call : Call) (m s : List ℕ) (d : Descriptor) (p cwd : List ℕ) (response : ℕ) {c : Result Decision} → askCall call plain m s d p cwd response ≡ c
+    → Asks call m s d p cwd response (doActs m (actsIn c)) (begun (textDue c d p cwd) s) (resultOf c d p cwd)
+asks-of call m s d p cwd response e = record { answers = answers-of d p cwd s e; memory = rw e }
+
 -- ---- how long its text is
 
 cut-short : (b : Bool) (text : List ℕ) → length text ≤ textBytes → length (cond b text []) ≤ textBytes

@@ -1,6 +1,6 @@
 -- Laws of single steps: each call has a next main, and what goes on from a main or a standby whose table is known.
 use Prim.Native.Nat.{ℕ, zero, suc, _+_}
-use mathlib.Core.Path.{_≡_, refl, sym, ap, _∙_}
+use mathlib.Core.Path.{_≡_, refl, sym}
 use mathlib.Core.List.{List, [], _∷_, _++_, List·Memᴰ}
 use mathlib.Core.Option.{Option, none, some}
 use mathlib.Core.Bool.{true}
@@ -27,16 +27,17 @@ use Rattle.walk.specs.declared.Answer.{Answer}
 use Rattle.walk.specs.Calls.{queryAnswer}
 use Rattle.calls.specs.declared.Call.{Call}
 use Rattle.calls.specs.Decisions.{Decision}
-use Rattle.calls.specs.Calls.{askedIn, askCall, textDue, revokeCall}
+use Rattle.calls.specs.Calls.{askCall, textDue, revokeCall}
 use Rattle.calls.specs.Calls as calls
+use Rattle.calls.proofs.AskLaws.{resultOf, answers-of}
 use Rattle.child.specs.Calls.{Creation, childCall, refusalIn, childAfter}
 use Rattle.child.specs.Calls as child-calls
 use Rattle.records.specs.Records.{Change, changeWords, numbered, allWords, readChange}
 use Rattle.images.specs.Images.{Image, imageWords, imageSize, no-entry, Writable}
 use Rattle.images.proofs.ImageLaws.{image-read}
 use Rattle.link.specs.declared.ImageSent.{ImageSent}
-use Rattle.link.specs.Sending.{Sends}
 use Rattle.link.specs.Imaging.{imageCall, wordsIn, sizeIn, WritesImage}
+use Rattle.link.proofs.SendingLaws.{sends-of}
 use Rattle.standby.specs.declared.Numbers.{Numbers}
 use Rattle.standby.specs.declared.Arrival.{Arrival}
 use Rattle.standby.specs.Arriving.{standbyIn, wellFormed, Taken, arrival, answerIn, actsIn, numbersIn, Arrives}
@@ -83,10 +84,6 @@ at-start : (x w : List ℕ) → x ≡ take (length x) (begun x w)
 unfolding begun
 at-start x w = sym (take-append-seam x _)
 
-sends : (a : Main) (w : List ℕ) {made acts : List Act} → made ≡ acts
-    → Sends (a .number) made (a .memory) w (after a acts .memory) (after a acts .number) (begun (sent a acts) w) (length (sent a acts))
-sends a w e = rw e (record { memory = refl; number = refl; words = refl; count = refl })
-
 module _ (a : Main) (w : List ℕ) where
   pub insert-steps : (kind : ℕ) (p cwd : List ℕ) → Bytes p → Bytes cwd → (call : Result Act) → insertCall (linked (a .number) w) (a .memory) kind p cwd ≡ call
       → Steps a (table-calls.actsIn call) (inserting kind p (outcomeOf (causeOf call)))
@@ -96,7 +93,7 @@ module _ (a : Main) (w : List ℕ) where
       record {
         step =
             inserts w kind p cwd (begun (sent a acts) w) (record { outcome = outcomeOf (causeOf call); words = length (sent a acts) }) b c
-            (record { outcome = rw e; sends = sends a w (rw e) })
+            (record { outcome = rw e; sends = sends-of (a .number) (a .memory) w (rw e) })
             (rw e)
             (at-start _ _);
         is = refl;
@@ -110,7 +107,7 @@ module _ (a : Main) (w : List ℕ) where
       record {
         step =
             switches w v (begun (sent a acts) w) (record { outcome = outcomeOf (causeOf call); words = length (sent a acts) })
-            (record { outcome = rw e; sends = sends a w (rw e) })
+            (record { outcome = rw e; sends = sends-of (a .number) (a .memory) w (rw e) })
             (rw e)
             (at-start _ _);
         is = refl;
@@ -121,14 +118,13 @@ module _ (a : Main) (w : List ℕ) where
   unfolding lineOf
   ask-steps kind s d p cwd response b c call e =
       let acts = calls.actsIn call in
-      let text = textDue call d p cwd in
       record {
         step =
-            asks kind s w d p cwd response (begun text s) (begun (sent a acts) w)
-            (record { answered = record { answer = calls.answerIn call; asked = askedIn call; text = length text }; words = length (sent a acts) })
+            asks kind s w d p cwd response (begun (textDue call d p cwd) s) (begun (sent a acts) w)
+            (record { answered = resultOf call d p cwd; words = length (sent a acts) })
             b
             c
-            (record { answers = record { answer = rw e; asked = rw e; size = rw e; space = rw e }; sends = sends a w (rw e) })
+            (record { answers = answers-of d p cwd s e; sends = sends-of (a .number) (a .memory) w (rw e) })
             (rw e)
             (at-start _ _);
         is = refl;
@@ -142,7 +138,7 @@ module _ (a : Main) (w : List ℕ) where
       record {
         step =
             revokes w d p cwd (begun (sent a acts) w) (record { answer = calls.answerIn call; words = length (sent a acts) }) b c
-            (record { answer = rw e; sends = sends a w (rw e) })
+            (record { answer = rw e; sends = sends-of (a .number) (a .memory) w (rw e) })
             (rw e)
             (at-start _ _);
         is = refl;
@@ -160,7 +156,7 @@ module _ (a : Main) (w : List ℕ) where
             (record { made = record { outcome = outcomeOf (refusalIn call); asked = child-calls.askedIn call }; words = length (sent a acts) })
             b
             d
-            (record { creates = record { outcome = rw e; asked = rw e; child = rw e }; sends = sends a w (rw e) })
+            (record { creates = record { outcome = rw e; asked = rw e; child = rw e }; sends = sends-of (a .number) (a .memory) w (rw e) })
             (rw e)
             (at-start _ _);
         is = refl;

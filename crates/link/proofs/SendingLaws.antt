@@ -47,6 +47,11 @@ module _ (n : ℕ) (w : List ℕ) where
   unfolding atLeastOne
   a-room h = room-long 1 n w (le-ltb (length w) recordSpace h)
 
+-- `Sends` settles everything, so that there is something sent whatever the acts
+pub sends-of : (n : ℕ) (m w : List ℕ) {made acts : List Act} → made ≡ acts
+    → Sends n made m w (doActs m acts) (n + length acts) (begun (allWords (numbered n acts)) w) (length (allWords (numbered n acts)))
+sends-of n m w e = rw e (record { memory = refl; number = refl; words = refl; count = refl })
+
 -- ---- acts in turn
 
 pub numbered-append : (n : ℕ) (a b : List Act) → allWords (numbered n (a ++ b)) ≡ allWords (numbered n a) ++ allWords (numbered (n + length a) b)

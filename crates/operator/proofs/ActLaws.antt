@@ -25,7 +25,7 @@ use Rattle.table.proofs.FoundLaws.{found-any}
 use Rattle.walk.specs.declared.PermissionState.the-variants.{Prompt}
 use Rattle.walk.specs.declared.AllowPartial.{AllowPartial}
 use Rattle.walk.specs.declared.AllowPartial.the-variants.{TreatAsDenied, TreatAsPartialGranted, TreatAsGranted}
-use Rattle.walk.specs.Walk.{matchesKind, matches, firstMatch, isPartial, allowed, decidedBy, byMatch, queryDesc}
+use Rattle.walk.specs.Walk.{matchesKind, matches, firstMatch, allowed, decidedBy, byMatch, queryDesc}
 use Rattle.operator.specs.Operator.{isOpen, stateOf}
 use Rattle.operator.proofs.OpenLaws.{switchesAllow, openBy, open-by}
 

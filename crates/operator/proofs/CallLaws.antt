@@ -5,7 +5,7 @@ use mathlib.Core.List.{List}
 use mathlib.Core.Option.{Option, none, some}
 use mathlib.Core.Bool.{Bool, true, false, cond, true≢false, false≢true}
 use borrow.Author.Tests.{not-true}
-use Rattle.refusals.specs.Refusals.{Result, andThen}
+use Rattle.refusals.specs.Refusals.{Result}
 use Rattle.refusals.proofs.CauseLaws.{Hands, stops, hands, hands-itself, hands-then, hands-unless}
 use Rattle.paths.specs.declared.Descriptor.{Descriptor}
 use Rattle.paths.specs.declared.Descriptor.the-variants.{NoPath, Path}
@@ -13,7 +13,7 @@ use Rattle.paths.specs.Resolving.{resolve}
 use Rattle.paths.specs.Relations.{isPrefix}
 use Rattle.paths.specs.Giving.{Query, noPath, path, queryOf, resolved, given}
 use Rattle.table.specs.declared.Kind.the-variants.{G, P}
-use Rattle.table.specs.Tables.{Table, has, prompt, granted, promptDenied, flagIgnored}
+use Rattle.table.specs.Tables.{Table, has, prompt, granted, flagIgnored}
 use Rattle.table.specs.Acts.{Act, insert, applyAct, applyActs}
 use Rattle.table.specs.Memory.{tableOf, holds, doActs}
 use Rattle.table.specs.Carrying.{Link, actsOf}
@@ -59,7 +59,7 @@ use Rattle.calls.specs.Decisions.{
 use Rattle.calls.specs.Calls.{carriedOut, actsIn, askedIn, settled, textSpace, askCall, revokeAct, revokeDesc, revokeCall}
 use Rattle.calls.proofs.KeepLaws.{ask-acted, revoke-acted}
 use Rattle.calls.proofs.AskLaws.{ask-no-table}
-use Rattle.operator.specs.Operator.{isOpen, stateOf, Shut, Open, saysNo, Answered}
+use Rattle.operator.specs.Operator.{isOpen, stateOf, Shut, Open, saysNo, Answered, IsYes}
 use Rattle.operator.proofs.OpenLaws.{granted-below}
 use Rattle.operator.proofs.ActLaws.{shut-insert, shut-revoke, shut-revoke-all, shut-eight, shut-same, open-grant}
 
@@ -126,7 +126,7 @@ module _ (t : Table) (p : List ℕ) (shut : isOpen (stateOf t p) ≡ false) wher
   deny-shut : (q : Query) → isOpen (stateOf (applyAct t (denyAct t q)) p) ≡ false
   unfolding denyAct switchOn
   deny-shut noPath = shut-eight t p shut
-  deny-shut (path q) = shut-insert t p shut (record { kind = P; path = q }) (λ m. refl)
+  deny-shut (path q) = shut-insert t p shut _ (λ m. refl)
 
   -- a G that is no prefix of p
   beside-shut : (q : List ℕ) → isPrefix q p ≡ false → isOpen (stateOf (applyAct t (insert (record { kind = G; path = q }))) p) ≡ false
@@ -269,13 +269,13 @@ module _ (call : Call) (link : Link) (m s : List ℕ) (d : Descriptor) (p cwd : 
 
 pub ask-open : (call : Call) (link : Link) (m s p cwd : List ℕ) (response : ℕ) {x m′ : List ℕ} {asked : Bool}
     → m′ ≡ doActs m (actsIn (askCall call link m s Path p cwd response)) → asked ≡ askedIn (askCall call link m s Path p cwd response)
-    → resolve p cwd ≡ x → asked ≡ true → responseOf response ≡ Response Allow → Open x m′
+    → IsYes x p cwd asked response → Open x m′
 unfolding queryOf
-ask-open call link m s p cwd response e a is told allow =
-    let asked = sym a ∙ told in
+ask-open call link m s p cwd response e a Y =
+    let asked = sym a ∙ Y .told in
     let h = asked-held call link m s Path p cwd response (holds m) refl asked in
     left-open _ (ask-acted call link m s Path p cwd response h) e
-    (answers-open (tableOf m) _ (rw is at (ask-comes link m Path p cwd h call s response)) asked allow)
+    (answers-open (tableOf m) _ (rw (Y .for) at (ask-comes link m Path p cwd h call s response)) asked (Y .answer))
 
 pub revoke-shut : (link : Link) (m : List ℕ) (d : Descriptor) (p cwd : List ℕ) {x m′ : List ℕ} → m′ ≡ doActs m (actsIn (revokeCall link m d p cwd))
     → Shut x m → Shut x m′

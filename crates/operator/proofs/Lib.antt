@@ -4,4 +4,5 @@ pub mod CallLaws
 pub mod Operator
 pub mod StepLaws
 pub mod Needed
+pub mod Witness
 pub mod Wrong

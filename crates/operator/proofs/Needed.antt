@@ -61,10 +61,11 @@ use Rattle.calls.specs.declared.Call.the-variants.{Request}
 use Rattle.calls.specs.Decisions.{responseOf, knownResponse, switchOn, grantAct, answerAct, stateBy, asks, requestBy, requestDesc, decide}
 use Rattle.calls.specs.Calls.{carriedOut, settled}
 use Rattle.calls.specs.Calls as calls
+use Rattle.calls.proofs.AskLaws.{asks-of}
 use Rattle.operator.specs.Operator.{isOpen, stateOf, Operator, promised, Step}
 use Rattle.operator.specs.Operator as operator
 use Rattle.operator.specs.Needed.{allowsAbove, allowsNoPath, allowsAll, OrInserts, inserts, OrSwitches, switches, Opens, Needed, EachNeeded}
-use Rattle.operator.proofs.StepLaws.{asks-of, textRoom, ask-on, answered-by, opens-by, opens-unkept}
+use Rattle.operator.proofs.StepLaws.{textRoom, ask-on, answered-by, opens-by, opens-unkept}
 
 -- no entry, and switch 16 alone
 abbrev prompting : Table
@@ -86,7 +87,7 @@ request-opens : (may : List ℕ → Operator) (d : Descriptor) (p : List ℕ) (r
     → isOpen (stateOf (applyActs prompting (act ∷ [])) (bytes "/a")) ≡ true
     → Needed (λ p. Step promised (may p))
 request-opens may d p response answer act v comes acts known allows shut fits opened =
-    let asked = asks-of Request (tableMemory prompting) textRoom d p [] response (ask-on Request (memory-stands prompting v) d p [] response ∙ comes) in
+    let asked = asks-of Request (tableMemory prompting) textRoom d p [] response (ask-on (memory-stands prompting v) d p [] Request plain (room-plain 1) response ∙ comes) in
     let step : Step promised (may (bytes "/a")) (tableMemory prompting) (doActs (tableMemory prompting) (act ∷ [])) =
     operator.asks Request textRoom d p [] response _ _ (rw acts at asked) (answered-by (may (bytes "/a")) (queryOf d (resolve p [])) response answer known allows)
     in

@@ -1,6 +1,6 @@
 -- The operator against the script, proved: from single calls to runs of them.
 use Prim.Native.Nat.{ℕ}
-use mathlib.Core.Path.{_≡_, refl, sym, subst}
+use mathlib.Core.Path.{_≡_, sym, subst}
 use mathlib.Core.List.{List}
 use mathlib.Core.Bool.{true}
 use Rattle.refusals.specs.Refusals.{ok, andThen}
@@ -47,9 +47,8 @@ script-shut start S = S
 script-shut (thenCall R C) S = step-shut C (script-shut R S)
 
 allowed-open : {p m m′ : List ℕ} → Allowed promised p m m′ → Open p m′
-allowed-open (allowed call s given cwd response s′ r A is told allow) = ask-open call _ _ s given cwd response (A .memory) (A .answers .asked) is told allow
-allowed-open (linkedAllowed call n s w given cwd response n′ s′ w′ r A is told allow) =
-    ask-open call _ _ s given cwd response (A .sends .memory) (A .answers .asked) is told allow
+allowed-open (allowed call s given cwd response s′ r A Y) = ask-open call _ _ s given cwd response (A .memory) (A .answers .asked) Y
+allowed-open (linkedAllowed call n s w given cwd response n′ s′ w′ r A Y) = ask-open call _ _ s given cwd response (A .sends .memory) (A .answers .asked) Y
 
 query-seen : (p m given cwd : List ℕ) → holds m ≡ true → resolved given cwd ≡ ok p
     → queryAnswer m (modeNumber TreatAsPartialGranted) Path given cwd ≡ State (stateOf (tableOf m) p)

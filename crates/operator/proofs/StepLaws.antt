@@ -1,43 +1,32 @@
--- Laws of single steps: each call has one, whatever it is lent and handed; and a step on a known table that opens a path which was shut.
+-- Laws of single steps on a known table: what a call comes to there, and one that opens a path which was shut.
 use Prim.Native.Nat.{ℕ}
-use mathlib.Core.Path.{_≡_, refl, sym, ap, _∙_}
-use mathlib.Core.List.{List, [], _∷_}
+use mathlib.Core.Path.{_≡_, sym, _∙_}
+use mathlib.Core.List.{List}
 use mathlib.Core.Bool.{Bool, true, false, true≢false}
 use native.Mathlib.Omega.{arith}
 use lib.ListN.{length}
 use borrow.Author.Tests.{le-ltb}
-use Rattle.refusals.specs.Refusals.{firstCause, Result, ok, andThen, unless}
+use Rattle.refusals.specs.Refusals.{firstCause, ok, andThen, unless}
 use Rattle.paths.specs.declared.Descriptor.{Descriptor}
-use Rattle.paths.specs.Copying.{begun}
-use Rattle.paths.specs.Giving.{Query}
-use Rattle.table.specs.declared.Numbering.the-variants.{Plain}
+use Rattle.paths.specs.Giving.{Query, given}
+use Rattle.table.specs.declared.Numbering.{Numbering}
 use Rattle.table.specs.Tables.{Table, isTable}
 use Rattle.table.specs.Acts.{Act, applyActs}
 use Rattle.table.specs.Memory.{doActs}
-use Rattle.table.specs.Carrying.{plain}
-use Rattle.table.proofs.CallLaws.{room-plain}
+use Rattle.table.specs.Carrying.{Link}
+use Rattle.table.specs.Calls.{recordRoom}
 use Rattle.table.proofs.StandingLaws.{allFit, Stands, stands-then, table-in, spaceOf, length-space, tableMemory, memory-stands}
+use Rattle.walk.specs.Walk.{modeOf, knownMode, queryDesc}
+use Rattle.walk.specs.Calls.{queryCall, answerOf, queryAnswer}
 use Rattle.calls.specs.declared.Call.{Call}
-use Rattle.calls.specs.declared.Asked.{Asked}
 use Rattle.calls.specs.declared.PromptResponse.{PromptResponse}
 use Rattle.calls.specs.declared.ResponseRead.the-variants.{Response}
-use Rattle.calls.specs.Decisions.{responseOf, knownResponse, Decision}
-use Rattle.calls.specs.Calls.{answerIn, askedIn, actsIn, settled, textBytes, textSpace, askCall, textDue, Answers, Asks}
-use Rattle.operator.specs.Operator.{isOpen, stateOf, Shut, Open, Operator, Answered, Script, start, thenCall, KeepsShut}
+use Rattle.calls.specs.Decisions.{responseOf, knownResponse}
+use Rattle.calls.specs.Calls.{carriedOut, settled, textBytes, textSpace, askCall, revokeDesc, revokeCall}
+use Rattle.operator.specs.Operator.{isOpen, stateOf, Shut, Open, Operator, Answered, start, thenCall, KeepsShut}
 use Rattle.operator.specs.Needed.{Opens}
 
--- ---- the promises settle everything, so that any call has a step; c is what the call comes to
-
--- what check and request answer
-abbrev pub resultOf : Result Decision → Descriptor → List ℕ → List ℕ → Asked
-resultOf c d p cwd = record { answer = answerIn c; asked = askedIn c; text = length (textDue c d p cwd) }
-
-pub answers-of : {c call : Result Decision} (d : Descriptor) (p cwd s : List ℕ) → call ≡ c → Answers call d p cwd s (begun (textDue c d p cwd) s) (resultOf c d p cwd)
-answers-of d p cwd s e = record { answer = rw e; asked = rw e; size = rw e; space = rw e }
-
-pub asks-of : (call : Call) (m s : List ℕ) (d : Descriptor) (p cwd : List ℕ) (response : ℕ) {c : Result Decision} → askCall call plain m s d p cwd response ≡ c
-    → Asks call m s d p cwd response (doActs m (actsIn c)) (begun (textDue c d p cwd) s) (resultOf c d p cwd)
-asks-of call m s d p cwd response e = record { answers = answers-of d p cwd s e; memory = rw e }
+-- ---- the calls on memory that holds a table
 
 -- a text space
 abbrev pub textRoom : List ℕ
@@ -47,11 +36,22 @@ pub text-room : textSpace textRoom ≡ ok textRoom
 unfolding textSpace firstCause unless
 text-room = rw (le-ltb (length textRoom) textBytes (omega (arith, length-space textBytes)))
 
--- check and request on memory that holds the table t
-pub ask-on : (call : Call) {m : List ℕ} {t : Table} → Stands m t → (d : Descriptor) (p cwd : List ℕ) (response : ℕ)
-    → askCall call plain m textRoom d p cwd response ≡ andThen (knownResponse (responseOf response)) (λ known. settled call Plain t d p cwd known)
-unfolding askCall andThen
-ask-on call S d p cwd response = rw (table-in S, text-room, room-plain 1)
+-- plain or linked
+module _ {m : List ℕ} {t : Table} (S : Stands m t) (d : Descriptor) (p cwd : List ℕ) where
+  pub ask-on : (call : Call) (link : Link) {numbers : Numbering} → recordRoom 1 link ≡ ok numbers → (response : ℕ)
+      → askCall call link m textRoom d p cwd response ≡ andThen (knownResponse (responseOf response)) (λ known. settled call numbers t d p cwd known)
+  unfolding askCall andThen
+  ask-on call link room response = rw (table-in S, text-room, room)
+
+  pub revoke-on : (link : Link) {numbers : Numbering} → recordRoom 1 link ≡ ok numbers
+      → revokeCall link m d p cwd ≡ andThen (given d p cwd) (λ q. carriedOut numbers t (revokeDesc t q))
+  unfolding revokeCall andThen
+  revoke-on link room = rw (table-in S, room)
+
+  pub query-on : (mode : ℕ)
+      → queryAnswer m mode d p cwd ≡ answerOf (andThen (knownMode (modeOf mode)) (λ known. andThen (given d p cwd) (λ q. ok (queryDesc t known q))))
+  unfolding queryAnswer queryCall andThen
+  query-on mode = rw (table-in S)
 
 -- the answer that the number names is one that the operator may give
 pub answered-by : (operator : Operator) {asked : Bool} (q : Query) (response : ℕ) (answer : PromptResponse) → responseOf response ≡ Response answer

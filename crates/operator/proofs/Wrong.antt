@@ -1,6 +1,6 @@
 -- Each wrong version of `specs/Wrong.antt` breaks the claim with one call on a small table, and the right one in the same form meets it.
 use Prim.Native.Nat.{ℕ}
-use mathlib.Core.Path.{_≡_, refl, ap, _∙_}
+use mathlib.Core.Path.{_≡_, refl, _∙_}
 use mathlib.Core.List.{List, [], _∷_}
 use mathlib.Core.Option.{none, some}
 use mathlib.Core.Bool.{Bool, true, false, false≢true}
@@ -34,11 +34,11 @@ use Rattle.table.specs.Acts.{
   applyActs,
 }
 use Rattle.table.specs.Memory.{tableOf, holds, put, doAct, doActs}
-use Rattle.table.specs.Carrying.{plain, usedUp, carryCause, actsOf}
-use Rattle.table.specs.Calls.{tableIn, putIn}
+use Rattle.table.specs.Carrying.{usedUp, carryCause, actsOf}
+use Rattle.table.specs.Calls.{putIn}
 use Rattle.table.proofs.Puts.{long-of, left-put}
 use Rattle.table.proofs.CallLaws.{no-table, a-table, room-plain}
-use Rattle.table.proofs.StandingLaws.{allFit, Stands, table-in, tableMemory, memory-stands}
+use Rattle.table.proofs.StandingLaws.{allFit, table-in, tableMemory, memory-stands}
 use Rattle.walk.specs.declared.PermissionState.the-variants.{Granted, GrantedPartial, Denied}
 use Rattle.walk.specs.declared.AllowPartial.the-variants.{TreatAsPartialGranted}
 use Rattle.walk.specs.declared.Answer.{Answer}
@@ -59,9 +59,7 @@ use Rattle.walk.specs.Walk.{
 }
 use Rattle.walk.specs.Calls.{answerOf}
 use Rattle.walk.specs.Cases.{bytes, entry}
-use Rattle.calls.specs.declared.PromptResponse.{PromptResponse}
-use Rattle.calls.specs.declared.PromptResponse.the-variants.{Deny, Allow}
-use Rattle.calls.specs.declared.ResponseRead.the-variants.{Response}
+use Rattle.calls.specs.declared.PromptResponse.the-variants.{Deny}
 use Rattle.calls.specs.declared.Call.{Call}
 use Rattle.calls.specs.declared.Call.the-variants.{Request}
 use Rattle.calls.specs.declared.Asked.{Asked}
@@ -80,6 +78,7 @@ use Rattle.calls.specs.Decisions.{
   decide,
 }
 use Rattle.calls.specs.Calls.{carriedOut, answerIn, askedIn, actsIn, settled, askCall, textDue, revokeAct, revokeDesc, revokeCall, Asks, Revokes}
+use Rattle.calls.proofs.AskLaws.{resultOf, answers-of}
 use Rattle.link.specs.declared.AskSent.{AskSent}
 use Rattle.link.specs.declared.RevokeSent.{RevokeSent}
 use Rattle.link.specs.Linked.{LinkedAsks, LinkedRevokes}
@@ -109,7 +108,6 @@ use Rattle.operator.specs.Wrong.{
   takesUnasked,
   answersUnasked,
   allowNothing,
-  Revoking,
   RevokesBy,
   revokes,
   isGrantedOrDenied,
@@ -119,7 +117,7 @@ use Rattle.operator.specs.Wrong.{
   RuledOut,
 }
 use Rattle.operator.proofs.Operator.{operator-against-script}
-use Rattle.operator.proofs.StepLaws.{resultOf, answers-of, textRoom, text-room, answered-by, shut-on, never-both, opens-to, opens-by, opens-unkept}
+use Rattle.operator.proofs.StepLaws.{textRoom, text-room, answered-by, shut-on, never-both, opens-to, opens-by, opens-unkept}
 
 -- ---- the right versions, in the form of the wrong ones
 
@@ -182,9 +180,9 @@ module _ {P : Promises} (F : Implies P) where
   script-implies (thenCall R C) = thenCall (script-implies R) (step-implies C)
 
   allowed-implies : {p m m′ : List ℕ} → Allowed P p m m′ → Allowed promised p m m′
-  allowed-implies (operator.allowed call s p cwd response s′ r A is told allow) = operator.allowed call s p cwd response s′ r (F .asks call A) is told allow
-  allowed-implies (operator.linkedAllowed call n s w p cwd response n′ s′ w′ r A is told allow) =
-      operator.linkedAllowed call n s w p cwd response n′ s′ w′ r (F .linkedAsks call A) is told allow
+  allowed-implies (operator.allowed call s p cwd response s′ r A Y) = operator.allowed call s p cwd response s′ r (F .asks call A) Y
+  allowed-implies (operator.linkedAllowed call n s w p cwd response n′ s′ w′ r A Y) =
+      operator.linkedAllowed call n s w p cwd response n′ s′ w′ r (F .linkedAsks call A) Y
 
   claim-implies : Claim P
   claim-implies = record {
@@ -265,7 +263,7 @@ ruled-out = record {
       (C .yes (bytes "/a") (tableMemory prompting) (tableMemory prompting)
       (operator.allowed Request textRoom (bytes "/a") [] 1 _ _
       (asked allowNothing prompting refl (bytes "/a") 1 (record { state = Granted; asked = true; writes = true; act = none }) refl)
-      refl refl refl));
+      (record { for = refl; told = refl; answer = refl })));
   -- a revoke of `/a`
   drops-denied = λ C.
       let S = memory-stands denying refl in

@@ -91,7 +91,7 @@ pub record Promises : Type 1 where
       (s′ w′ : List ℕ) (r : AskSent) → Type 0
   pub linkedRevokes : (m : List ℕ) (n : ℕ) (w : List ℕ) (d : Descriptor) (p cwd m′ : List ℕ) (n′ : ℕ) (w′ : List ℕ) (r : RevokeSent) → Type 0
 
--- their own
+-- the calls' own
 abbrev pub promised : Promises
 promised = record { asks = Asks; revokes = Revokes; linkedAsks = LinkedAsks; linkedRevokes = LinkedRevokes }
 
@@ -127,25 +127,26 @@ pub data Script (Next : List ℕ → List ℕ → Type 0) (m : List ℕ) : List 
 
 -- ---- a yes
 
--- A check or request for p, as given and with its working directory, that asked and was answered Allow: memory m becomes m′. It was not refused, since a refused
--- call did not ask.
+-- a call for p, as given and with its working directory, asked, and its answer was Allow; it was not refused, since a refused call did not ask
+pub record IsYes (p given cwd : List ℕ) (asked : Bool) (response : ℕ) : Type 0 where
+  pub for : resolve given cwd ≡ p
+  pub told : asked ≡ true
+  pub answer : responseOf response ≡ Response Allow
+
+-- a check or request for p that got a yes: memory m becomes m′
 pub data Allowed (P : Promises) (p m m′ : List ℕ) : Type 0 where
   allowed : (call : Call) (s given cwd : List ℕ) (response : ℕ) (s′ : List ℕ) (r : Asked)
       → P .asks call m s Path given cwd response m′ s′ r
-      → resolve given cwd ≡ p
-      → r .asked ≡ true
-      → responseOf response ≡ Response Allow
+      → IsYes p given cwd (r .asked) response
       → Allowed P p m m′
   linkedAllowed : (call : Call) (n : ℕ) (s w given cwd : List ℕ) (response n′ : ℕ) (s′ w′ : List ℕ) (r : AskSent)
       → P .linkedAsks call m n s w Path given cwd response m′ n′ s′ w′ r
-      → resolve given cwd ≡ p
-      → r .answered .asked ≡ true
-      → responseOf response ≡ Response Allow
+      → IsYes p given cwd (r .answered .asked) response
       → Allowed P p m m′
 
 -- ---- the claim
 
--- a path that is shut stays so, whatever steps are made; which steps may be made hangs on the path
+-- a path that is shut stays so, whatever steps are made; which may be made can depend on the path
 abbrev pub KeepsShut : (List ℕ → List ℕ → List ℕ → Type 0) → Type 0
 KeepsShut Next = (p m m′ : List ℕ) → Script (Next p) m m′ → Shut p m → Shut p m′
 

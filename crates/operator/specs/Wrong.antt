@@ -10,7 +10,6 @@ use Rattle.paths.specs.Relations.{isPrefix}
 use Rattle.paths.specs.Giving.{Query, noPath, path, given}
 use Rattle.table.specs.declared.Kind.{Kind}
 use Rattle.table.specs.declared.Kind.the-variants.{G, D, P, I}
-use Rattle.table.specs.Entries.{Entry}
 use Rattle.table.specs.Tables.{Table, has, prompt, marksOf}
 use Rattle.table.specs.Acts.{without, applyAct}
 use Rattle.table.specs.Memory.{doActs}
@@ -35,8 +34,7 @@ use Rattle.calls.specs.declared.Call.{Call}
 use Rattle.calls.specs.declared.Call.the-variants.{Check, Request}
 use Rattle.calls.specs.declared.Asked.{Asked}
 use Rattle.calls.specs.Decisions.{responseOf, knownResponse, grantAct, answerAct, Decision, stateBy, requestBy, decide}
-use Rattle.calls.specs.Calls.{carriedOut, actsIn, textSpace, Answers, revokeAct, Revokes}
-use Rattle.calls.specs.Calls.{Asks}
+use Rattle.calls.specs.Calls.{carriedOut, actsIn, textSpace, Answers, Asks, revokeAct, Revokes}
 use Rattle.link.specs.Linked.{LinkedAsks, LinkedRevokes}
 use Rattle.operator.specs.Operator.{Promises, Claim}
 

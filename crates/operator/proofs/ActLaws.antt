@@ -26,8 +26,7 @@ use Rattle.walk.specs.declared.PermissionState.the-variants.{Prompt}
 use Rattle.walk.specs.declared.AllowPartial.{AllowPartial}
 use Rattle.walk.specs.declared.AllowPartial.the-variants.{TreatAsDenied, TreatAsPartialGranted, TreatAsGranted}
 use Rattle.walk.specs.Walk.{matchesKind, matches, firstMatch, allowed, decidedBy, byMatch, queryDesc}
-use Rattle.operator.specs.Operator.{isOpen, stateOf}
-use Rattle.operator.proofs.OpenLaws.{switchesAllow, openBy, open-by}
+use Rattle.operator.proofs.OpenLaws.{IsShut, IsOpen, switchesAllow, openBy, open-by}
 
 -- ---- an insert
 
@@ -121,32 +120,32 @@ cleared-shut s (some e) h = h
 
 -- ---- each act
 
-module _ (t : Table) (p : List ℕ) (shut : isOpen (stateOf t p) ≡ false) where
+module _ (t : Table) (p : List ℕ) (shut : IsShut t p) where
   was : openBy (t .switches) (firstMatch p (t .entries)) ≡ false
   was = sym (open-by t p) ∙ shut
 
   -- an insert of an entry that does not match p, or is no G
-  pub shut-insert : (e : Entry) → (matches p e ≡ true → isGranted (e .kind) ≡ false) → isOpen (stateOf (applyAct t (insert e)) p) ≡ false
+  pub shut-insert : (e : Entry) → (matches p e ≡ true → isGranted (e .kind) ≡ false) → IsShut (applyAct t (insert e)) p
   unfolding applyAct inserted insertedBy
   shut-insert e f = open-by _ p ∙ placed-shut p e (t .switches) (place (t .entries) e) (t .entries) f was
 
-  pub shut-revoke : (q : List ℕ) → isOpen (stateOf (applyAct t (revoke q)) p) ≡ false
+  pub shut-revoke : (q : List ℕ) → IsShut (applyAct t (revoke q)) p
   unfolding applyAct revokedBy
   shut-revoke q = open-by _ p ∙ dropped-shut (t .switches) p (revokedBy q) (λ e d. and-left (isGranted (e .kind)) _ d) (t .entries) was
 
-  pub shut-revoke-all : isOpen (stateOf (applyAct t revokeAll) p) ≡ false
+  pub shut-revoke-all : IsShut (applyAct t revokeAll) p
   unfolding applyAct
   shut-revoke-all =
       open-by _ p
       ∙ cleared-shut (t .switches) (firstMatch p (without (λ e. isGranted (e .kind)) (t .entries)))
       (dropped-shut (t .switches) p (λ e. isGranted (e .kind)) (λ e d. d) (t .entries) was)
 
-  pub shut-eight : isOpen (stateOf (applyAct t (setSwitches (setBit (t .switches) promptDenied))) p) ≡ false
+  pub shut-eight : IsShut (applyAct t (setSwitches (setBit (t .switches) promptDenied))) p
   unfolding applyAct
   shut-eight = open-by _ p ∙ eight-shut (t .switches) (firstMatch p (t .entries)) was
 
   -- switches as they are
-  pub shut-same : (s : ℕ) → t .switches ≡ s → isOpen (stateOf (applyAct t (setSwitches s)) p) ≡ false
+  pub shut-same : (s : ℕ) → t .switches ≡ s → IsShut (applyAct t (setSwitches s)) p
   unfolding applyAct
   shut-same s e = open-by _ p ∙ ap (λ (k : ℕ). openBy k (firstMatch p (t .entries))) (sym e) ∙ was
 
@@ -211,6 +210,6 @@ module _ (p : List ℕ) where
   placed-open s es Found e n = absurd (true≢false (sym (found-any (matches p) es grant e same-matches) ∙ none-matches p es n))
   placed-open s es (At k) e n = with-open s es (rw n at (first-with p grant k es)) (more-matches k es)
 
-  pub open-grant : (t : Table) (mode : AllowPartial) → queryDesc t mode (path p) ≡ Prompt → isOpen (stateOf (applyAct t (insert grant)) p) ≡ true
+  pub open-grant : (t : Table) (mode : AllowPartial) → queryDesc t mode (path p) ≡ Prompt → IsOpen (applyAct t (insert grant)) p
   unfolding applyAct inserted insertedBy
   open-grant t mode e = open-by _ p ∙ placed-open (t .switches) (t .entries) (place (t .entries) grant) refl (prompt-unmatched t mode p e)

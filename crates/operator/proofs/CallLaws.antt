@@ -60,7 +60,7 @@ use Rattle.calls.specs.Calls.{carriedOut, actsIn, askedIn, settled, textSpace, 
 use Rattle.calls.proofs.KeepLaws.{ask-acted, revoke-acted}
 use Rattle.calls.proofs.AskLaws.{ask-no-table}
 use Rattle.operator.specs.Operator.{isOpen, stateOf, Shut, Open, saysNo, Answered, IsYes}
-use Rattle.operator.proofs.OpenLaws.{granted-below}
+use Rattle.operator.proofs.OpenLaws.{IsShut, IsOpen, granted-below}
 use Rattle.operator.proofs.ActLaws.{shut-insert, shut-revoke, shut-revoke-all, shut-eight, shut-same, open-grant}
 
 -- ---- what check and request decide: whether they ask, and their act
@@ -122,46 +122,46 @@ none-granted : (t : Table) → queryDesc t TreatAsPartialGranted noPath ≡ Gran
 unfolding queryDesc withoutMatch isDeniedMode
 none-granted t e = without-one (has (t .switches) flagIgnored) (isDenied t noPath) (has (t .switches) granted) _ e
 
-module _ (t : Table) (p : List ℕ) (shut : isOpen (stateOf t p) ≡ false) where
-  deny-shut : (q : Query) → isOpen (stateOf (applyAct t (denyAct t q)) p) ≡ false
+module _ (t : Table) (p : List ℕ) (shut : IsShut t p) where
+  deny-shut : (q : Query) → IsShut (applyAct t (denyAct t q)) p
   unfolding denyAct switchOn
   deny-shut noPath = shut-eight t p shut
   deny-shut (path q) = shut-insert t p shut _ (λ m. refl)
 
   -- a G that is no prefix of p
-  beside-shut : (q : List ℕ) → isPrefix q p ≡ false → isOpen (stateOf (applyAct t (insert (record { kind = G; path = q }))) p) ≡ false
+  beside-shut : (q : List ℕ) → isPrefix q p ≡ false → IsShut (applyAct t (insert (record { kind = G; path = q }))) p
   unfolding matches matchesKind
   beside-shut q n = shut-insert t p shut (record { kind = G; path = q }) (λ m. absurd (true≢false (sym m ∙ n)))
 
-  allow-shut : (q : Query) → saysNo p q Allow ≡ true → isOpen (stateOf (applyAct t (grantAct t q)) p) ≡ false
+  allow-shut : (q : Query) → saysNo p q Allow ≡ true → IsShut (applyAct t (grantAct t q)) p
   unfolding saysNo grantAct
   allow-shut noPath e = absurd (false≢true e)
   allow-shut (path q) e = beside-shut q (not-true _ e)
 
-  answer-shut : (q : Query) (response : PromptResponse) → saysNo p q response ≡ true → isOpen (stateOf (applyAct t (answerAct t q response)) p) ≡ false
+  answer-shut : (q : Query) (response : PromptResponse) → saysNo p q response ≡ true → IsShut (applyAct t (answerAct t q response)) p
   unfolding answerAct
   answer-shut q Deny e = deny-shut q
   answer-shut q Allow e = allow-shut q e
   answer-shut q AllowAll e = absurd (false≢true (unfold saysNo in e))
 
   -- what is Granted already is no prefix of p, so that a request inserts it in vain
-  again-by : (q : List ℕ) (b : Bool) → isPrefix q p ≡ b → stateOf t q ≡ Granted → isOpen (stateOf (applyAct t (insert (record { kind = G; path = q }))) p) ≡ false
+  again-by : (q : List ℕ) (b : Bool) → isPrefix q p ≡ b → stateOf t q ≡ Granted → IsShut (applyAct t (insert (record { kind = G; path = q }))) p
   unfolding isOpen
   again-by q true h e = absurd (true≢false (sym (ap isOpen (granted-below t q p h e)) ∙ shut))
   again-by q false h e = beside-shut q h
 
-  again-shut : (q : Query) → queryDesc t TreatAsPartialGranted q ≡ Granted → isOpen (stateOf (applyAct t (grantAct t q)) p) ≡ false
+  again-shut : (q : Query) → queryDesc t TreatAsPartialGranted q ≡ Granted → IsShut (applyAct t (grantAct t q)) p
   unfolding grantAct switchOn
   again-shut noPath e = shut-same t p shut _ (bit-kept (t .switches) granted (none-granted t e))
   again-shut (path q) e = again-by q _ refl e
 
-  revoked-shut : (q : Query) → isOpen (stateOf (applyAct t (revokeAct q)) p) ≡ false
+  revoked-shut : (q : Query) → IsShut (applyAct t (revokeAct q)) p
   unfolding revokeAct
   revoked-shut noPath = shut-revoke-all t p shut
   revoked-shut (path q) = shut-revoke t p shut q
 
   comes-shut : {q : Query} {response : PromptResponse} {asked : Bool} {act : Option Act} → Comes t q response asked act
-      → (asked ≡ true → saysNo p q response ≡ true) → isOpen (stateOf (applyActs t (actsOf none act)) p) ≡ false
+      → (asked ≡ true → saysNo p q response ≡ true) → IsShut (applyActs t (actsOf none act)) p
   unfolding actsOf applyActs
   comes-shut silent f = shut
   comes-shut {q} {response} (asking mode e) f = answer-shut q response (f refl)
@@ -170,7 +170,7 @@ module _ (t : Table) (p : List ℕ) (shut : isOpen (stateOf t p) ≡ false) wher
 -- ---- a yes
 
 comes-open : {t : Table} {p : List ℕ} {asked : Bool} {act : Option Act} → Comes t (path p) Allow asked act → asked ≡ true
-    → isOpen (stateOf (applyActs t (actsOf none act)) p) ≡ true
+    → IsOpen (applyActs t (actsOf none act)) p
 unfolding actsOf applyActs answerAct grantAct
 comes-open silent a = absurd (false≢true a)
 comes-open {t} {p} (asking mode e) a = open-grant p t mode e
@@ -189,7 +189,7 @@ known-is (Response answer) = hands refl
 known-is Unknown = stops
 
 -- check and request on the table t, of q, with the answer that a number names
-record Answers (t : Table) (q : Query) (response : ℕ) (decision : Decision) : Type 0 where
+record DecidedBy (t : Table) (q : Query) (response : ℕ) (decision : Decision) : Type 0 where
   answer : PromptResponse
   known : responseOf response ≡ Response answer
   comes : Comes t q answer (decision .asked) (decision .act)
@@ -199,7 +199,7 @@ Revoked : Query → Decision → Type 0
 Revoked q decision = decision .act ≡ some (revokeAct q)
 
 module _ (link : Link) (m : List ℕ) (d : Descriptor) (p cwd : List ℕ) (h : holds m ≡ true) where
-  ask-comes : (call : Call) (s : List ℕ) (response : ℕ) → Hands (Answers (tableOf m) (queryOf d (resolve p cwd)) response) (askCall call link m s d p cwd response)
+  ask-comes : (call : Call) (s : List ℕ) (response : ℕ) → Hands (DecidedBy (tableOf m) (queryOf d (resolve p cwd)) response) (askCall call link m s d p cwd response)
   unfolding askCall settled carriedOut
   ask-comes call s response =
       hands-table m _ h (
@@ -220,35 +220,35 @@ module _ (link : Link) (m : List ℕ) (d : Descriptor) (p cwd : List ℕ) (h : h
 -- ---- and what they leave, by their acts
 
 module _ (t : Table) (p : List ℕ) where
-  acts-shut : {c : Result Decision} → isOpen (stateOf t p) ≡ false → Hands (λ decision. isOpen (stateOf (applyActs t (actsOf none (decision .act))) p) ≡ false) c
-      → isOpen (stateOf (applyActs t (actsIn c)) p) ≡ false
+  acts-shut : {c : Result Decision} → IsShut t p → Hands (λ decision. IsShut (applyActs t (actsOf none (decision .act))) p) c
+      → IsShut (applyActs t (actsIn c)) p
   unfolding actsIn applyActs
   acts-shut shut stops = shut
   acts-shut shut (hands x) = x
 
-  answers-shut : {q : Query} {response : ℕ} {c : Result Decision} → isOpen (stateOf t p) ≡ false → Answered (saysNo p) (askedIn c) q response
-      → Hands (Answers t q response) c → Hands (λ decision. isOpen (stateOf (applyActs t (actsOf none (decision .act))) p) ≡ false) c
+  answers-shut : {q : Query} {response : ℕ} {c : Result Decision} → IsShut t p → Answered (saysNo p) (askedIn c) q response
+      → Hands (DecidedBy t q response) c → Hands (λ decision. IsShut (applyActs t (actsOf none (decision .act))) p) c
   unfolding askedIn
   answers-shut shut f stops = stops
   answers-shut shut f (hands A) = hands (comes-shut t p shut (A .comes) (λ e. f e (A .answer) (A .known)))
 
-  revoked-acts : (q : Query) {c : Result Decision} → isOpen (stateOf t p) ≡ false → Hands (Revoked q) c
-      → Hands (λ decision. isOpen (stateOf (applyActs t (actsOf none (decision .act))) p) ≡ false) c
+  revoked-acts : (q : Query) {c : Result Decision} → IsShut t p → Hands (Revoked q) c
+      → Hands (λ decision. IsShut (applyActs t (actsOf none (decision .act))) p) c
   unfolding Revoked actsOf applyActs
   revoked-acts q shut stops = stops
   revoked-acts q shut (hands {x = decision} e) = hands {x = decision} (rw e (revoked-shut t p shut q))
 
-  answers-open : {response : ℕ} {c : Result Decision} → Hands (Answers t (path p) response) c → askedIn c ≡ true → responseOf response ≡ Response Allow
-      → isOpen (stateOf (applyActs t (actsIn c)) p) ≡ true
+  answers-open : {response : ℕ} {c : Result Decision} → Hands (DecidedBy t (path p) response) c → askedIn c ≡ true → responseOf response ≡ Response Allow
+      → IsOpen (applyActs t (actsIn c)) p
   unfolding askedIn actsIn
   answers-open stops a e = absurd (false≢true a)
   answers-open (hands A) a e = let allow : A .answer ≡ Allow = cc (A .known, e) in comes-open (rw allow at (A .comes)) a
 
 module _ {p m m′ : List ℕ} (c : Result Decision) (A : Acted m (actsIn c)) (e : m′ ≡ doActs m (actsIn c)) where
-  left-shut : isOpen (stateOf (applyActs (tableOf m) (actsIn c)) p) ≡ false → Shut p m′
+  left-shut : IsShut (applyActs (tableOf m) (actsIn c)) p → Shut p m′
   left-shut x = record { holding = rw e (A .holding); state = rw (e, A .table) x }
 
-  left-open : isOpen (stateOf (applyActs (tableOf m) (actsIn c)) p) ≡ true → Open p m′
+  left-open : IsOpen (applyActs (tableOf m) (actsIn c)) p → Open p m′
   left-open x = record { holding = rw e (A .holding); state = rw (e, A .table) x }
 
 module _ (call : Call) (link : Link) (m s : List ℕ) (d : Descriptor) (p cwd : List ℕ) (response : ℕ) where

@@ -3,7 +3,7 @@ use Prim.Native.Nat.{ℕ}
 use mathlib.Core.Path.{_≡_, refl, _∙_}
 use mathlib.Core.List.{List, [], _∷_}
 use mathlib.Core.Option.{some}
-use mathlib.Core.Bool.{true, false}
+use mathlib.Core.Bool.{true}
 use Rattle.refusals.specs.Refusals.{firstCause, ok, andThen, unless, causeOf}
 use Rattle.paths.specs.declared.Descriptor.{Descriptor}
 use Rattle.paths.specs.declared.Descriptor.the-variants.{NoPath, Path}
@@ -62,9 +62,10 @@ use Rattle.calls.specs.Decisions.{responseOf, knownResponse, switchOn, grantAct
 use Rattle.calls.specs.Calls.{carriedOut, settled}
 use Rattle.calls.specs.Calls as calls
 use Rattle.calls.proofs.AskLaws.{asks-of}
-use Rattle.operator.specs.Operator.{isOpen, stateOf, Operator, promised, Step}
+use Rattle.operator.specs.Operator.{isOpen, Operator, promised, Step}
 use Rattle.operator.specs.Operator as operator
 use Rattle.operator.specs.Needed.{allowsAbove, allowsNoPath, allowsAll, OrInserts, inserts, OrSwitches, switches, Opens, Needed, EachNeeded}
+use Rattle.operator.proofs.OpenLaws.{IsShut, IsOpen}
 use Rattle.operator.proofs.StepLaws.{textRoom, ask-on, answered-by, opens-by, opens-unkept}
 
 -- no entry, and switch 16 alone
@@ -82,9 +83,9 @@ request-opens : (may : List ℕ → Operator) (d : Descriptor) (p : List ℕ) (r
     → calls.actsIn (ok (record { state = Granted; asked = true; writes = true; act = some act })) ≡ act ∷ []
     → responseOf response ≡ Response answer
     → may (bytes "/a") (queryOf d (resolve p [])) answer ≡ true
-    → isOpen (stateOf prompting (bytes "/a")) ≡ false
+    → IsShut prompting (bytes "/a")
     → allFit prompting (act ∷ []) ≡ true
-    → isOpen (stateOf (applyActs prompting (act ∷ [])) (bytes "/a")) ≡ true
+    → IsOpen (applyActs prompting (act ∷ [])) (bytes "/a")
     → Needed (λ p. Step promised (may p))
 request-opens may d p response answer act v comes acts known allows shut fits opened =
     let asked = asks-of Request (tableMemory prompting) textRoom d p [] response (ask-on (memory-stands prompting v) d p [] Request plain (room-plain 1) response ∙ comes) in

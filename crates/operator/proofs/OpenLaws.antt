@@ -35,6 +35,13 @@ use Rattle.walk.specs.Walk.{
 use Rattle.walk.proofs.WalkLaws.{neither}
 use Rattle.operator.specs.Operator.{isOpen, stateOf}
 
+-- p on the table t
+abbrev pub IsShut : Table → List ℕ → Type 0
+IsShut t p = isOpen (stateOf t p) ≡ false
+
+abbrev pub IsOpen : Table → List ℕ → Type 0
+IsOpen t p = isOpen (stateOf t p) ≡ true
+
 -- ---- open by the first match, or by the switches
 
 unfoldable pub switchesAllow : ℕ → Bool

@@ -2,7 +2,7 @@
 use Prim.Native.Nat.{ℕ}
 use mathlib.Core.Path.{_≡_, sym, _∙_}
 use mathlib.Core.List.{List}
-use mathlib.Core.Bool.{Bool, true, false, true≢false}
+use mathlib.Core.Bool.{Bool, true, true≢false}
 use native.Mathlib.Omega.{arith}
 use lib.ListN.{length}
 use borrow.Author.Tests.{le-ltb}
@@ -23,8 +23,9 @@ use Rattle.calls.specs.declared.PromptResponse.{PromptResponse}
 use Rattle.calls.specs.declared.ResponseRead.the-variants.{Response}
 use Rattle.calls.specs.Decisions.{responseOf, knownResponse}
 use Rattle.calls.specs.Calls.{carriedOut, settled, textBytes, textSpace, askCall, revokeDesc, revokeCall}
-use Rattle.operator.specs.Operator.{isOpen, stateOf, Shut, Open, Operator, Answered, start, thenCall, KeepsShut}
+use Rattle.operator.specs.Operator.{Shut, Open, Operator, Answered, start, thenCall, KeepsShut}
 use Rattle.operator.specs.Needed.{Opens}
+use Rattle.operator.proofs.OpenLaws.{IsShut, IsOpen}
 
 -- ---- the calls on memory that holds a table
 
@@ -60,18 +61,18 @@ answered-by operator q response answer known may told other also = let same : an
 
 -- ---- a known table, on which p is shut
 
-pub shut-on : {m : List ℕ} {t : Table} (p : List ℕ) → Stands m t → isOpen (stateOf t p) ≡ false → Shut p m
+pub shut-on : {m : List ℕ} {t : Table} (p : List ℕ) → Stands m t → IsShut t p → Shut p m
 shut-on p S e = record { holding = S .holding; state = rw (S .table) e }
 
-pub open-on : {m : List ℕ} {t : Table} (p : List ℕ) → Stands m t → isOpen (stateOf t p) ≡ true → Open p m
+pub open-on : {m : List ℕ} {t : Table} (p : List ℕ) → Stands m t → IsOpen t p → Open p m
 open-on p S e = record { holding = S .holding; state = rw (S .table) e }
 
 pub never-both : {p m : List ℕ} → Shut p m → Open p m → ⊥
 never-both S O = true≢false (sym (O .state) ∙ S .state)
 
 -- memory with the table t, and memory with the table u, which a step leaves
-pub opens-to : {Next : List ℕ → List ℕ → List ℕ → Type 0} (p : List ℕ) (t u : Table) {m : List ℕ} → isTable t ≡ true → isOpen (stateOf t p) ≡ false → Stands m u
-    → isOpen (stateOf u p) ≡ true → Next p (tableMemory t) m → Opens Next
+pub opens-to : {Next : List ℕ → List ℕ → List ℕ → Type 0} (p : List ℕ) (t u : Table) {m : List ℕ} → isTable t ≡ true → IsShut t p → Stands m u
+    → IsOpen u p → Next p (tableMemory t) m → Opens Next
 opens-to p t u {m} v shut S opened next = record {
   p = p;
   before = tableMemory t;
@@ -82,8 +83,8 @@ opens-to p t u {m} v shut S opened next = record {
 }
 
 -- the same by acts
-pub opens-by : {Next : List ℕ → List ℕ → List ℕ → Type 0} (p : List ℕ) (t : Table) (acts : List Act) → isTable t ≡ true → isOpen (stateOf t p) ≡ false
-    → allFit t acts ≡ true → isOpen (stateOf (applyActs t acts) p) ≡ true → Next p (tableMemory t) (doActs (tableMemory t) acts) → Opens Next
+pub opens-by : {Next : List ℕ → List ℕ → List ℕ → Type 0} (p : List ℕ) (t : Table) (acts : List Act) → isTable t ≡ true → IsShut t p
+    → allFit t acts ≡ true → IsOpen (applyActs t acts) p → Next p (tableMemory t) (doActs (tableMemory t) acts) → Opens Next
 opens-by p t acts v shut fits opened next = opens-to p t (applyActs t acts) v shut (stands-then (memory-stands t v) acts fits) opened next
 
 -- then p is not kept shut

@@ -84,7 +84,6 @@ use Rattle.link.specs.declared.RevokeSent.{RevokeSent}
 use Rattle.link.specs.Linked.{LinkedAsks, LinkedRevokes}
 use Rattle.operator.specs.Operator.{
   isOpen,
-  stateOf,
   Operator,
   saysNo,
   Answered,
@@ -117,6 +116,7 @@ use Rattle.operator.specs.Wrong.{
   RuledOut,
 }
 use Rattle.operator.proofs.Operator.{operator-against-script}
+use Rattle.operator.proofs.OpenLaws.{IsShut, IsOpen}
 use Rattle.operator.proofs.StepLaws.{textRoom, text-room, answered-by, shut-on, never-both, opens-to, opens-by, opens-unkept}
 
 -- ---- the right versions, in the form of the wrong ones
@@ -207,7 +207,7 @@ module _ (deciding : Deciding) (t : Table) (v : isTable t ≡ true) (p : List �
 
   -- a request for p opens x, though the operator says no
   request-breaks : (x : List ℕ) (act : Act) → actsIn (ok decision) ≡ act ∷ [] → Answered (saysNo x) (askedIn (ok decision)) (queryOf Path (resolve p [])) response
-      → isOpen (stateOf t x) ≡ false → allFit t (act ∷ []) ≡ true → isOpen (stateOf (applyActs t (act ∷ [])) x) ≡ true → Claim (asking deciding) → ⊥
+      → IsShut t x → allFit t (act ∷ []) ≡ true → IsOpen (applyActs t (act ∷ [])) x → Claim (asking deciding) → ⊥
   request-breaks x act acts may shut fits opened C =
       let step : Step (asking deciding) (saysNo x) m (doActs m (act ∷ [])) = operator.asks Request textRoom Path p [] response _ _ (rw acts at asked) may in
       opens-unkept {Next = λ p. Step (asking deciding) (saysNo p)} (opens-by x t (act ∷ []) v shut fits opened step) (C .no)

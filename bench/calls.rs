@@ -56,7 +56,7 @@ type Ask = unsafe extern "C" fn(
     *mut u8, usize, *const u8, usize, *const u8, usize, u32, *mut u8, usize, *mut u32, *mut usize,
 ) -> i32;
 type LinkedAsk = unsafe extern "C" fn(
-    *mut u8, usize, *mut u64, *const u8, usize, *const u8, usize, u32, *mut u8, usize, *mut u32, usize, *mut u32, *mut usize,
+    *mut u8, usize, u32, *mut u64, *const u8, usize, *const u8, usize, u32, *mut u8, usize, *mut u32, usize, *mut u32, *mut usize,
     *mut usize,
 ) -> i32;
 
@@ -79,13 +79,13 @@ unsafe extern "C" {
         text: *mut u8, text_space: usize, asked: *mut u32, text_size: *mut usize,
     ) -> i32;
     fn permissions_linked_check(
-        memory: *mut u8, size: usize, number: *mut u64, path: *const u8, path_size: usize, cwd: *const u8, cwd_size: usize,
-        answer: u32, text: *mut u8, text_space: usize, records: *mut u32, records_space: usize, asked: *mut u32,
+        memory: *mut u8, size: usize, run: u32, number: *mut u64, path: *const u8, path_size: usize, cwd: *const u8,
+        cwd_size: usize, answer: u32, text: *mut u8, text_space: usize, records: *mut u32, records_space: usize, asked: *mut u32,
         text_size: *mut usize, records_size: *mut usize,
     ) -> i32;
     fn permissions_linked_request(
-        memory: *mut u8, size: usize, number: *mut u64, path: *const u8, path_size: usize, cwd: *const u8, cwd_size: usize,
-        answer: u32, text: *mut u8, text_space: usize, records: *mut u32, records_space: usize, asked: *mut u32,
+        memory: *mut u8, size: usize, run: u32, number: *mut u64, path: *const u8, path_size: usize, cwd: *const u8,
+        cwd_size: usize, answer: u32, text: *mut u8, text_space: usize, records: *mut u32, records_space: usize, asked: *mut u32,
         text_size: *mut usize, records_size: *mut usize,
     ) -> i32;
 }
@@ -100,7 +100,7 @@ struct Memory {
 
 impl Memory {
     fn fresh() -> Self {
-        let (table, text, records) = (vec![0; 33540], vec![0; 1041], vec![0; 344]);
+        let (table, text, records) = (vec![0; 33540], vec![0; 1041], vec![0; 345]);
         let mut memory = Memory { table, text, records, answer: 0, before: Vec::new() };
         assert_eq!(unsafe { permissions_fresh(memory.table.as_mut_ptr(), memory.table.len()) }, 0);
         memory
@@ -157,8 +157,8 @@ impl Memory {
         self.set_back();
         unsafe {
             call(
-                self.table.as_mut_ptr(), self.table.len(), &mut number, path.as_ptr(), path.len(), cwd.as_ptr(), cwd.len(),
-                self.answer, self.text.as_mut_ptr(), self.text.len(), self.records.as_mut_ptr(), self.records.len(),
+                self.table.as_mut_ptr(), self.table.len(), 1, &mut number, path.as_ptr(), path.len(), cwd.as_ptr(),
+                cwd.len(), self.answer, self.text.as_mut_ptr(), self.text.len(), self.records.as_mut_ptr(), self.records.len(),
                 &mut asked, &mut size, &mut words,
             )
         }

@@ -19,13 +19,15 @@ enum {
     RECORD = PERMISSIONS_RECORD_WORDS,
     IMAGE = PERMISSIONS_IMAGE_WORDS,
     ENTRIES = PERMISSIONS_MAX_ENTRIES,
+    RUN = 1,
     PATHS = 16,
     PATH_ROOM = 64
 };
 
 static unsigned char table[TABLE], before[TABLE], child[TABLE];
 static size_t before_size;
-static uint64_t number, last, highest, entries;
+static uint64_t number, entries;
+static struct permissions_standby standby;
 static uint32_t records[RECORD], asked;
 static size_t records_size, text_size;
 static char text[PERMISSIONS_TEXT_BYTES];
@@ -74,7 +76,7 @@ static int32_t insert(struct turn *turn)
 
 static int32_t linked_insert(struct turn *turn)
 {
-    return permissions_linked_insert(table, TABLE, &number, 0, PATH, RECORDS, &records_size);
+    return permissions_linked_insert(table, TABLE, RUN, &number, 0, PATH, RECORDS, &records_size);
 }
 
 static int32_t check(struct turn *turn)
@@ -84,7 +86,7 @@ static int32_t check(struct turn *turn)
 
 static int32_t linked_check(struct turn *turn)
 {
-    return permissions_linked_check(table, TABLE, &number, PATH, 1, text, sizeof text, RECORDS, &asked, &text_size, &records_size);
+    return permissions_linked_check(table, TABLE, RUN, &number, PATH, 1, text, sizeof text, RECORDS, &asked, &text_size, &records_size);
 }
 
 static int32_t request(struct turn *turn)
@@ -94,7 +96,7 @@ static int32_t request(struct turn *turn)
 
 static int32_t linked_request(struct turn *turn)
 {
-    return permissions_linked_request(table, TABLE, &number, PATH, 1, text, sizeof text, RECORDS, &asked, &text_size,
+    return permissions_linked_request(table, TABLE, RUN, &number, PATH, 1, text, sizeof text, RECORDS, &asked, &text_size,
                                       &records_size);
 }
 
@@ -105,7 +107,7 @@ static int32_t revoke(struct turn *turn)
 
 static int32_t linked_revoke(struct turn *turn)
 {
-    return permissions_linked_revoke(table, TABLE, &number, turn->present, strlen(turn->present), NULL, 0, RECORDS, &records_size);
+    return permissions_linked_revoke(table, TABLE, RUN, &number, turn->present, strlen(turn->present), NULL, 0, RECORDS, &records_size);
 }
 
 static int32_t switches(struct turn *turn)
@@ -117,21 +119,27 @@ static int32_t switches(struct turn *turn)
 static int32_t linked_switches(struct turn *turn)
 {
     (void)turn;
-    return permissions_linked_switches(table, TABLE, &number, PERMISSIONS_SWITCH_PROMPT, RECORDS, &records_size);
+    return permissions_linked_switches(table, TABLE, RUN, &number, PERMISSIONS_SWITCH_PROMPT, RECORDS, &records_size);
 }
 
 static int32_t linked_child(struct turn *turn)
 {
     uint32_t end = (uint32_t)strlen(turn->path), yes = PERMISSIONS_ANSWER_ALLOW;
 
-    return permissions_linked_child(table, TABLE, &number, child, TABLE, PERMISSIONS_CHILD_LIST, turn->path, end, &end, 1, &yes, 1,
+    return permissions_linked_child(table, TABLE, RUN, &number, child, TABLE, PERMISSIONS_CHILD_LIST, turn->path, end, &end, 1, &yes, 1,
                                     NULL, 0, RECORDS, &asked, &records_size);
 }
 
-static int32_t arrive(const struct turn *turn, uint64_t numbers)
+/* A standby in the main's run that has this change, and has heard of no later one. */
+static void stand(uint64_t change)
 {
-    last = highest = numbers;
-    return permissions_arrive(table, TABLE, &last, &highest, turn->record, turn->record_size);
+    standby = (struct permissions_standby){change, change, RUN, RUN};
+}
+
+static int32_t arrive(const struct turn *turn, uint64_t change)
+{
+    stand(change);
+    return permissions_standby_arrive(table, TABLE, &standby, turn->record, turn->record_size);
 }
 
 static int32_t applied(struct turn *turn) { return arrive(turn, entries - 1); }
@@ -143,24 +151,24 @@ static int32_t owed(struct turn *turn)
     uint64_t changes;
 
     (void)turn;
-    return permissions_owed(entries - 2, entries, &changes);
+    return permissions_owed(entries - 2, entries, RUN, RUN, &changes);
 }
 
 static int32_t image(struct turn *turn)
 {
     (void)turn;
-    return permissions_linked_image(whole.table, TABLE, entries, whole.image, IMAGE, &whole.image_size);
+    return permissions_linked_image(whole.table, TABLE, RUN, entries, whole.image, IMAGE, &whole.image_size);
 }
 
 static void begin(void)
 {
     must(permissions_fresh(table, TABLE));
-    last = highest = 0;
+    standby = (struct permissions_standby){0, 0, 0, 0};
 }
 
 static int32_t arrive_image(void)
 {
-    return permissions_arrive_image(table, TABLE, &last, &highest, whole.image, whole.image_size);
+    return permissions_standby_arrive_image(table, TABLE, &standby, whole.image, whole.image_size);
 }
 
 static int32_t taken(struct turn *turn)
@@ -173,7 +181,7 @@ static int32_t taken(struct turn *turn)
 static int32_t image_repeat(struct turn *turn)
 {
     (void)turn;
-    last = highest = entries;
+    stand(entries);
     return arrive_image() - PERMISSIONS_ARRIVAL_REPEAT;
 }
 
@@ -184,7 +192,7 @@ static int32_t by_records(struct turn *turn)
     (void)turn;
     begin();
     for (size_t i = 0; i < entries && result == 0; i++)
-        result = permissions_arrive(table, TABLE, &last, &highest, whole.records[i].words, whole.records[i].size);
+        result = permissions_standby_arrive(table, TABLE, &standby, whole.records[i].words, whole.records[i].size);
     return result;
 }
 
@@ -260,7 +268,7 @@ static void fill_whole(void)
     number = 0;
     for (unsigned long i = 0; i < entries; i++) {
         write_path(path, i, "unit");
-        must(permissions_linked_insert(whole.table, TABLE, &number, kind(i), path, strlen(path), NULL, 0, whole.records[i].words,
+        must(permissions_linked_insert(whole.table, TABLE, RUN, &number, kind(i), path, strlen(path), NULL, 0, whole.records[i].words,
                                        RECORD, &whole.records[i].size));
     }
     size = (size_t)permissions_used(whole.table, TABLE);
@@ -282,7 +290,7 @@ static void prepare(struct turn *turn, unsigned long i)
     write_path(turn->path, i, "pump");
     write_path(turn->present, i, "unit");
     set_back();
-    must(permissions_linked_insert(table, TABLE, &number, 0, PATH, turn->record, RECORD, &turn->record_size));
+    must(permissions_linked_insert(table, TABLE, RUN, &number, 0, PATH, turn->record, RECORD, &turn->record_size));
 }
 
 int main(int arguments, char **argument)

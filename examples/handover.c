@@ -1,21 +1,24 @@
 /* What ./demo shows of main and standby: a main's changes over a bad link, what the standby makes of them, a new standby that joins
- * by an image, and the takeover. What the link does is fixed below; all else comes from calls of permissions.h. */
+ * by an image, a main whose board is swapped, and the takeover. What the link does is fixed below; all else comes from calls of
+ * permissions.h. */
 #include "permissions.h"
 
 #include <stdio.h>
 #include <string.h>
 
-enum { TABLE = PERMISSIONS_TABLE_BYTES, RECORD = PERMISSIONS_RECORD_WORDS, MOST_CHANGES = 9 };
+enum { TABLE = PERMISSIONS_TABLE_BYTES, RECORD = PERMISSIONS_RECORD_WORDS, MOST_RUNS = 2, MOST_CHANGES = 9 };
 
 static unsigned char main_table[TABLE], standby_table[TABLE];
 static unsigned char careless_table[TABLE]; /* of a standby that does whatever comes */
-static uint64_t number, last, highest;
+static uint32_t run; /* the main's */
+static uint64_t number;
+static struct permissions_standby standby;
 
-/* The records, by number. */
+/* The records, by run and number. */
 static struct {
     uint32_t words[RECORD];
     size_t size;
-} sent[MOST_CHANGES + 1];
+} sent[MOST_RUNS + 1][MOST_CHANGES + 1];
 
 static char did[80]; /* what the main did, for the first column */
 
@@ -38,13 +41,13 @@ static size_t records_size;
 static int32_t let_ask(void)
 {
     snprintf(did, sizeof did, "the operator may be asked");
-    return permissions_linked_switches(main_table, TABLE, &number, PERMISSIONS_SWITCH_PROMPT, records, RECORD, &records_size);
+    return permissions_linked_switches(main_table, TABLE, run, &number, PERMISSIONS_SWITCH_PROMPT, records, RECORD, &records_size);
 }
 
 static int32_t insert(uint32_t kind, const char *path)
 {
     snprintf(did, sizeof did, "%s %s", permissions_kind_name(kind), path);
-    return permissions_linked_insert(main_table, TABLE, &number, kind, path, strlen(path), NULL, 0, records, RECORD,
+    return permissions_linked_insert(main_table, TABLE, run, &number, kind, path, strlen(path), NULL, 0, records, RECORD,
                                      &records_size);
 }
 
@@ -59,20 +62,26 @@ static int32_t check(const char *path, uint32_t operator_says)
         answer = operator_says;
         snprintf(did, sizeof did, "%.*s? the operator says %s", (int)size, text, answer ? "yes" : "no");
     }
-    return permissions_linked_check(main_table, TABLE, &number, path, strlen(path), NULL, 0, answer, text, sizeof text, records,
+    return permissions_linked_check(main_table, TABLE, run, &number, path, strlen(path), NULL, 0, answer, text, sizeof text, records,
                                     RECORD, &asked, &size, &records_size);
 }
 
 static int32_t revoke(const char *path)
 {
     snprintf(did, sizeof did, "revoked %s", path);
-    return permissions_linked_revoke(main_table, TABLE, &number, path, strlen(path), NULL, 0, records, RECORD, &records_size);
+    return permissions_linked_revoke(main_table, TABLE, run, &number, path, strlen(path), NULL, 0, records, RECORD, &records_size);
+}
+
+/* The change of the highest run met that the standby wants next. */
+static uint64_t wanted(void)
+{
+    return standby.run == standby.highest_run ? standby.last + 1 : 1;
 }
 
 /* The standby has said which change it wants: nothing is changed, the records go out again. */
 static int32_t send_again(void)
 {
-    snprintf(did, sizeof did, "the standby wants %lu: sent again", (unsigned long)last + 1);
+    snprintf(did, sizeof did, "the standby wants %lu:%lu: sent again", (unsigned long)run, (unsigned long)wanted());
     records_size = 0;
     return 0;
 }
@@ -92,43 +101,46 @@ static int32_t act(enum act what, const char *path)
 
 /* ---- a record arrives */
 
-/* A standby that does not look at numbers: to it each record is the next. */
-static int32_t do_carelessly(unsigned long k)
+/* A standby that does not look at runs and numbers: to it each record is the next. */
+static int32_t do_carelessly(uint32_t of_run, uint64_t k)
 {
-    uint64_t before = k - 1, heard = k - 1;
+    struct permissions_standby careless = {k - 1, k - 1, of_run, of_run};
 
-    return permissions_arrive(careless_table, TABLE, &before, &heard, sent[k].words, sent[k].size);
+    return permissions_standby_arrive(careless_table, TABLE, &careless, sent[of_run][k].words, sent[of_run][k].size);
 }
 
 /* What came, and what the standby says and has. */
 static int show(const char *came, int32_t result)
 {
     uint64_t owed;
+    char has[48];
 
-    if (stop("arrival", result) || stop("owed", permissions_owed(last, highest, &owed)))
+    if (stop("arrival", result) || stop("owed", permissions_standby_owed(&standby, &owed)))
         return 1;
-    printf("%-7s%-15s%-6lu%lu\n", came, permissions_arrival_name(result), (unsigned long)last, (unsigned long)owed);
+    snprintf(has, sizeof has, "%lu:%lu", (unsigned long)standby.run, (unsigned long)standby.last);
+    printf("%-7s%-15s%-6s%lu\n", came, permissions_arrival_name(result), has, (unsigned long)owed);
     return 0;
 }
 
-static int arrive(unsigned long k)
+static int arrive(uint32_t of_run, uint64_t k)
 {
-    char came[24];
+    char came[48];
 
-    snprintf(came, sizeof came, "%lu", k);
-    return stop("arrival", do_carelessly(k)) ||
-           show(came, permissions_arrive(standby_table, TABLE, &last, &highest, sent[k].words, sent[k].size));
+    snprintf(came, sizeof came, "%lu:%lu", (unsigned long)of_run, (unsigned long)k);
+    return stop("arrival", do_carelessly(of_run, k)) ||
+           show(came, permissions_standby_arrive(standby_table, TABLE, &standby, sent[of_run][k].words, sent[of_run][k].size));
 }
 
-/* The records that the link brings, in its own sequence. */
-static int bring(const char *numbers)
+/* The records that the link brings, in its own sequence: a digit is a change of the main's run, a letter, from `a` on, one of the run
+ * before. */
+static int bring(const char *changes)
 {
-    if (*numbers == '\0')
+    if (*changes == '\0')
         puts("lost");
-    for (; *numbers != '\0'; numbers++) {
-        if (arrive((unsigned long)(*numbers - '0')))
+    for (; *changes != '\0'; changes++) {
+        if (*changes >= 'a' ? arrive(run - 1, (uint64_t)(*changes - 'a' + 1)) : arrive(run, (uint64_t)(*changes - '0')))
             return 1;
-        if (numbers[1] != '\0')
+        if (changes[1] != '\0')
             printf("%61s", "");
     }
     return 0;
@@ -137,19 +149,19 @@ static int bring(const char *numbers)
 /* One step of the main, and the records that the link then brings. */
 static int step(enum act what, const char *path, const char *brought)
 {
-    uint64_t from = what == SEND_AGAIN ? last + 1 : number + 1;
+    uint64_t from = what == SEND_AGAIN ? wanted() : number + 1;
     char numbers[48];
 
     if (stop(path, act(what, path)))
         return 1;
     if (records_size > 0) {
-        memcpy(sent[number].words, records, records_size * sizeof records[0]);
-        sent[number].size = records_size;
+        memcpy(sent[run][number].words, records, records_size * sizeof records[0]);
+        sent[run][number].size = records_size;
     }
     if (from == number)
-        snprintf(numbers, sizeof numbers, "%lu", (unsigned long)from);
+        snprintf(numbers, sizeof numbers, "%lu:%lu", (unsigned long)run, (unsigned long)from);
     else
-        snprintf(numbers, sizeof numbers, "%lu to %lu", (unsigned long)from, (unsigned long)number);
+        snprintf(numbers, sizeof numbers, "%lu:%lu to %lu", (unsigned long)run, (unsigned long)from, (unsigned long)number);
     printf("  %-50s%-9s", did, numbers);
     return bring(brought);
 }
@@ -159,11 +171,18 @@ static void print_columns(void)
     printf("  %-50s%-9s%-7s%-15s%-6s%s\n", "the main", "sends", "comes", "standby says", "has", "is owed");
 }
 
+/* The main begins its next run: a fresh table, and the number 0. */
+static int begin(void)
+{
+    run++;
+    return stop("run", permissions_begin_run(main_table, TABLE, run, &number));
+}
+
 static int over_a_bad_link(void)
 {
-    puts("The link: the main sends each change with its number; the link loses, repeats and reorders them.\n");
+    puts("The link: the main sends each change with its run and number; the link loses, repeats and reorders them.\n");
     print_columns();
-    return step(ASK, "", "1") ||
+    return begin() || step(ASK, "", "1") ||
            step(GRANT, "/plant/hours", "") ||
            step(DENY, "/plant", "3") ||
            step(GRANT, "/home", "44") ||
@@ -184,20 +203,20 @@ static int send_image(const char *brought)
     static uint32_t image[PERMISSIONS_IMAGE_WORDS];
     size_t size;
 
-    if (stop("image", permissions_linked_image(main_table, TABLE, number, image, PERMISSIONS_IMAGE_WORDS, &size)))
+    if (stop("image", permissions_linked_image(main_table, TABLE, run, number, image, PERMISSIONS_IMAGE_WORDS, &size)))
         return 1;
     snprintf(did, sizeof did, "its table after change %lu, as an image of %lu words", (unsigned long)number, (unsigned long)size);
     printf("  %-50s%-9s", did, "image");
-    if (show("image", permissions_arrive_image(standby_table, TABLE, &last, &highest, image, size)))
+    if (show("image", permissions_standby_arrive_image(standby_table, TABLE, &standby, image, size)))
         return 1;
     printf("%61s", "");
     return bring(brought);
 }
 
-static int the_swap(void)
+static int a_new_standby(void)
 {
-    puts("\nThe swap: a new standby takes the old one's place. It has nothing, and the main no longer has the old records.\n");
-    last = highest = 0;
+    puts("\nA new standby takes the old one's place. It has nothing, and the main no longer has the old records.\n");
+    memset(&standby, 0, sizeof standby);
     if (stop("fresh", permissions_fresh(standby_table, TABLE)))
         return 1;
     print_columns();
@@ -205,6 +224,23 @@ static int the_swap(void)
            send_image("3") ||
            step(DENY, "/srv/dump", "9") ||
            puts("\n  Taken: its table is now the image's, and it goes on with the next change. What the image has is a Repeat.") < 0;
+}
+
+/* ---- a new main */
+
+static int the_board_swap(void)
+{
+    puts("\nThe board swap: in the middle of run 1 the main's board is swapped. The new one has nothing: it begins run 2, with a fresh table,"
+         "\nand counts from 1 again.\n");
+    print_columns();
+    return begin() ||
+           step(ASK, "", "") ||
+           step(GRANT, "/plant/hours", "2i") ||
+           step(DENY, "/plant", "3") ||
+           step(SEND_AGAIN, "", "3123") ||
+           step(YES, "/srv/log", "4c") ||
+           puts("\n  A change of the lower run that comes late is a Repeat. Change 1 of the higher one clears the standby's table; until it comes,"
+                "\n  all of run 2 is owed, and the standby has the main's table of run 1.") < 0;
 }
 
 /* ---- the takeover */
@@ -233,6 +269,6 @@ static int the_takeover(void)
 
 int main(void)
 {
-    return stop("fresh", permissions_fresh(main_table, TABLE)) || stop("fresh", permissions_fresh(standby_table, TABLE)) ||
-           stop("fresh", permissions_fresh(careless_table, TABLE)) || over_a_bad_link() || the_swap() || the_takeover();
+    return stop("fresh", permissions_fresh(standby_table, TABLE)) || stop("fresh", permissions_fresh(careless_table, TABLE)) ||
+           over_a_bad_link() || a_new_standby() || the_board_swap() || the_takeover();
 }

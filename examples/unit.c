@@ -5,10 +5,10 @@
 #include <stdlib.h>
 #include <unistd.h>
 
-enum { MOST_WORDS = PERMISSIONS_IMAGE_WORDS, IMAGE_KIND = 5 /* the top four bits of an image's first word */ };
+enum { MOST_WORDS = PERMISSIONS_IMAGE_WORDS, IMAGE_KIND = 5 /* the top four bits of an image's second word */ };
 
 unsigned char table[PERMISSIONS_TABLE_BYTES];
-uint64_t last, highest;
+struct permissions_standby numbers;
 
 static FILE *kept;
 
@@ -96,9 +96,9 @@ int read_frame(FILE *from, uint32_t *record, size_t *size)
 
 int32_t hand_in(const uint32_t *record, size_t size)
 {
-    if (size > 0 && record[0] >> 28 == IMAGE_KIND)
-        return permissions_arrive_image(table, sizeof table, &last, &highest, record, size);
-    return permissions_arrive(table, sizeof table, &last, &highest, record, size);
+    if (size > 1 && record[1] >> 28 == IMAGE_KIND)
+        return permissions_standby_arrive_image(table, sizeof table, &numbers, record, size);
+    return permissions_standby_arrive(table, sizeof table, &numbers, record, size);
 }
 
 /* ---- the file of records */
@@ -161,12 +161,12 @@ static void print_path(FILE *to, const unsigned char *path, size_t size)
     putc('\n', to);
 }
 
-void list_table(FILE *to, uint64_t number)
+void list_table(FILE *to, uint32_t run, uint64_t number)
 {
     uint32_t kind, place;
     size_t from, size;
 
-    fprintf(to, "after change %lu\n", (unsigned long)number);
+    fprintf(to, "run %lu after change %lu\n", (unsigned long)run, (unsigned long)number);
     for (place = 0; permissions_entry(table, sizeof table, place, &kind, &from, &size) == 1; place++) {
         fprintf(to, "%s ", permissions_kind_name(kind));
         print_path(to, table + from, size);

@@ -8,7 +8,7 @@
 #include <stdio.h>
 
 extern unsigned char table[PERMISSIONS_TABLE_BYTES];
-extern uint64_t last, highest;
+extern struct permissions_standby numbers; /* of a main too: run and last are its run and its number */
 
 /* Hands a record or an image to permissions_arrive or permissions_arrive_image, with the unit's table and numbers. */
 int32_t hand_in(const uint32_t *record, size_t size);
@@ -16,9 +16,8 @@ int32_t hand_in(const uint32_t *record, size_t size);
 /* Called with each record of the file that was applied and each image that was taken, in sequence. */
 typedef void applied_record(const uint32_t *record, size_t size);
 
-/* Opens the unit's file of records and images and hands each in: then table, last and highest stand as they stood. What a
- * power cut left of a frame at the file's end is cut off. The file must be there, be it empty: a unit that began anew unasked
- * would number its changes from 1 again. `each` may be NULL. */
+/* Opens the unit's file of records and images and hands each in: then table and numbers stand as they stood. What a power cut
+ * left of a frame at the file's end is cut off. The file must be there, be it empty. `each` may be NULL. */
 void start(const char *name, applied_record *each);
 
 /* Adds a record or an image to the file, and comes back when it is there to stay. */
@@ -32,8 +31,8 @@ void write_frame(FILE *to, const uint32_t *record, size_t size);
  * it ends. `record` has room for PERMISSIONS_IMAGE_WORDS. */
 int read_frame(FILE *from, uint32_t *record, size_t *size);
 
-/* Prints the change number and the entries. */
-void list_table(FILE *to, uint64_t number);
+/* Prints run and change number, and the entries. */
+void list_table(FILE *to, uint32_t run, uint64_t number);
 
 /* Says why, and ends the program: a unit that cannot keep what it has done must not go on. */
 void stop(const char *why);

@@ -15,8 +15,9 @@
  * may be anything. A lent number (uint32_t *asked, size_t *text_size) must not be
  * NULL. Those that take a result are written by every call, by a refused one too:
  * 0 there, but for the counts of a child call and the size of an image. The numbers
- * of the link (uint64_t *number, *last, *highest) and the state of a permission
- * without a path (uint32_t *state) are kept, as a table is, and take no result.
+ * of the link (uint64_t *number, and those of a standby) and the state of a
+ * permission without a path (uint32_t *state) are kept, as a table is, and take no
+ * result.
  *
  * Results. A negative result -n is refusal n (enum permissions_refusal). Each
  * refusal comes in exactly its condition, when the earlier ones that apply do not
@@ -52,9 +53,9 @@ extern "C" {
 #endif
 
 #define PERMISSIONS_VERSION_MAJOR 0
-#define PERMISSIONS_VERSION_MINOR 6
+#define PERMISSIONS_VERSION_MINOR 7
 #define PERMISSIONS_VERSION_PATCH 0
-#define PERMISSIONS_VERSION "0.6.0"
+#define PERMISSIONS_VERSION "0.7.0"
 
 /* The compiler warns where the result of a call is dropped, if it can. */
 #if defined(__GNUC__)
@@ -70,10 +71,10 @@ extern "C" {
 #define PERMISSIONS_TEXT_BYTES 1041u
 
 /* The words of the space for records; for a child list as many for each item. More may be lent, and is left alone. */
-#define PERMISSIONS_RECORD_WORDS 344u
+#define PERMISSIONS_RECORD_WORDS 345u
 
 /* The words of the largest image. Less space will do for an image that is shorter. */
-#define PERMISSIONS_IMAGE_WORDS 11351u
+#define PERMISSIONS_IMAGE_WORDS 11352u
 
 /* Limits. */
 #define PERMISSIONS_MAX_ENTRIES 256u
@@ -81,6 +82,7 @@ extern "C" {
 #define PERMISSIONS_MAX_PATH_SUM_BYTES 32768u /* of all paths in a table */
 #define PERMISSIONS_MAX_ITEMS 64u             /* of a child list */
 #define PERMISSIONS_MAX_NUMBER 16777215u      /* of a change */
+#define PERMISSIONS_MAX_RUN 268435455u        /* of a run */
 
 /* The stack that a call takes at most. */
 #define PERMISSIONS_STACK_BYTES 5120u
@@ -143,8 +145,8 @@ enum permissions_child_code {
 
 /* Answers of an arrival. */
 enum permissions_arrival {
-    PERMISSIONS_ARRIVAL_APPLIED = 0, /* the change was the next one, and is done */
-    PERMISSIONS_ARRIVAL_REPEAT = 1,  /* it had been done before; of an image, nothing in it is new */
+    PERMISSIONS_ARRIVAL_APPLIED = 0, /* the change was the next one, or change 1 of a higher run, and is done */
+    PERMISSIONS_ARRIVAL_REPEAT = 1,  /* it had been done before, or is of a lower run; of an image, nothing in it is new */
     PERMISSIONS_ARRIVAL_EARLY = 2,   /* one before it is missing; nothing is done, and it must come again */
     PERMISSIONS_ARRIVAL_TAKEN = 3    /* of an image: the table is now the image's */
 };
@@ -153,13 +155,15 @@ enum permissions_arrival {
  * linked calls, 11 for records that arrive, and 13 for images that do. */
 enum permissions_refusal {
     PERMISSIONS_REFUSAL_NO_TABLE = -1,          /* the memory is too small for a table, or holds none; memory about to get a
-                                                   fresh or child table need only be large enough; or a standby's last
-                                                   number is above its highest */
-    PERMISSIONS_REFUSAL_NO_SPACE = -2,          /* the text space is under 1,041 bytes, the record space under 344 words for
-                                                   each child item (at least 344), or the image space too short for the image */
+                                                   fresh or child table need only be large enough; or a standby's numbers
+                                                   are none that a standby has: its run above the highest run met, or
+                                                   last above highest while the two runs are the same */
+    PERMISSIONS_REFUSAL_NO_SPACE = -2,          /* the text space is under 1,041 bytes, the record space under 345 words for
+                                                   each child item (at least 345), or the image space too short for the image */
     PERMISSIONS_REFUSAL_UNKNOWN_STATE = -12,    /* the state of a permission without a path is above 5 */
-    PERMISSIONS_REFUSAL_UNKNOWN = -3,           /* an answer, mode, kind or child code is unknown, switches are above 31, or a
-                                                   child's items or answers are not in order */
+    PERMISSIONS_REFUSAL_UNKNOWN = -3,           /* an answer, mode, kind or child code is unknown, switches are above 31, a
+                                                   child's items or answers are not in order, or a run number is not
+                                                   from 1 to 268,435,455 */
     PERMISSIONS_REFUSAL_EMPTY_PATH = -4,        /* the path is empty */
     PERMISSIONS_REFUSAL_PATH_TOO_LONG = -5,     /* the path is over 1,024 bytes */
     PERMISSIONS_REFUSAL_BAD_DIRECTORY = -6,     /* a relative path, and a working directory that is empty, over 1,024 bytes
@@ -169,8 +173,9 @@ enum permissions_refusal {
                                                    would be over 32,768 bytes */
     PERMISSIONS_REFUSAL_NUMBERS_USED_UP = -9,   /* a recorded act needs a number above 16,777,215, or an image has one */
     PERMISSIONS_REFUSAL_ESCALATION = -10,       /* a child asks for more than its parent passes */
-    PERMISSIONS_REFUSAL_MALFORMED_RECORD = -11, /* a record is malformed */
-    PERMISSIONS_REFUSAL_MALFORMED_IMAGE = -13   /* an image is malformed, or its content is no table */
+    PERMISSIONS_REFUSAL_MALFORMED_RECORD = -11, /* a record is malformed, as one without its run word is */
+    PERMISSIONS_REFUSAL_MALFORMED_IMAGE = -13   /* an image is malformed, as one without its run word is, or its content
+                                                   is no table */
 };
 
 /* ---- a table ---- */
@@ -401,45 +406,80 @@ int32_t permissions_unit_revoke(uint32_t *state);
 
 /* ---- the link: the standby's half ----
  *
- * A standby keeps a table of its own and two numbers, all lent with each arrival
- * and kept together:
+ * A standby keeps a table of its own and four numbers, all lent with each arrival
+ * and kept together. It begins with a fresh table and all four 0:
  *
- *   last      the number of the last change that the table has: n
- *   highest   the highest number in any record or image that was not refused: h
+ *     static unsigned char table[PERMISSIONS_TABLE_BYTES];
+ *     static struct permissions_standby standby;
  *
- * It begins with a fresh table and both numbers 0, and hands every record that
- * comes over the link to permissions_arrive, in whatever order, as often as it
- * comes. Records may be lost, repeated and reordered: at any time the table is the
- * main's table after change n, and n is the greatest number for which changes 1 to
- * n came in that sequence, with anything between; where an image was taken, n is
- * counted on from it (see "images"). (That is proved of every list of the main's
- * calls and every list of arrivals, as long as the link alters no record or image
- * and invents none: a checksum on the wire is the program's.)
+ * The main's changes come in runs (see the main's half): after a board swap it
+ * begins a higher run, with a fresh table and its numbers counted from 1 again. A
+ * record or an image that is not refused is met.
  *
- *     static uint64_t last, highest;
- *     result = permissions_arrive(table, sizeof table, &last, &highest, record, record_size);
+ * The standby hands every record that comes over the link to
+ * permissions_standby_arrive, in whatever order, as often as it comes. Records may be
+ * lost, repeated and reordered: at any time the standby is in the highest run whose
+ * change 1 or image has come, its table is the main's table in that run after change
+ * n, and n is the greatest number for which changes 1 to n of it came in that sequence,
+ * with anything between; where an image was taken, n is counted on from it (see
+ * "images"). (That is proved of every list of the main's calls, run after run, and
+ * every list of arrivals, as long as the link alters no record or image and invents
+ * none: a checksum on the wire is the program's.)
+ *
+ *     result = permissions_standby_arrive(table, sizeof table, &standby, record, record_size);
  *     if (result == PERMISSIONS_ARRIVAL_EARLY)
- *         ask_main_for(last + 1);
+ *         ask_main_for(standby.run == standby.highest_run ? standby.last + 1 : 1);
+ *
+ *   a record's or image's run  of a record                                  of an image
+ *   below the standby's        Repeat                                       Repeat
+ *   the standby's              n + 1 is applied, up to n is Repeat, above   taken where n is below its number, else Repeat
+ *                              n + 1 is Early
+ *   above it                   change 1 clears table and n, and is applied: taken, even with the number 0: the standby is
+ *                              the standby is in that run; any other is     in that run
+ *                              Early
  *
  * To take over, make the calls on this table.
  */
 
-/* Takes one record.
- *   memory, memory_size   the standby's table
- *   last, highest         the standby's numbers; a refused arrival leaves them
- *   record, record_size   the words of one record, all of them and no more; the size counts words
- * Result: enum permissions_arrival; refusals 1, 11, and 8 where the record is the next one. */
+/* What a standby keeps beside its table. */
+struct permissions_standby {
+    uint64_t last;        /* the last change that the table has, in its run: n */
+    uint64_t highest;     /* the highest number met in the highest run met: h */
+    uint32_t run;         /* the run that the table is of; 0 before any */
+    uint32_t highest_run; /* the highest run met */
+};
+
+/* Takes one record. permissions_standby_arrive, below, lends the four numbers together.
+ *   memory, memory_size                the standby's table
+ *   last, highest, run, highest_run    the standby's numbers; a refused arrival leaves them
+ *   record, record_size                the words of one record, all of them and no more; the size counts words
+ * Result: enum permissions_arrival; refusals 1, 11, and 8 where the record is the next one of the standby's run. */
 PERMISSIONS_MUST_USE
 int32_t permissions_arrive(void *memory, size_t memory_size, uint64_t *last, uint64_t *highest,
+                           uint32_t *run, uint32_t *highest_run,
                            const uint32_t *record, size_t record_size);
 
-/* How many changes the standby has heard of and not applied: those from last + 1 to the highest number that came.
- *   last, highest   the standby's numbers
- *   owed            highest - last; 0 means that every record that came is done. A change that was lost is counted once a
- *                   later one has come, and not before
- * Result: 0; refusal 1 where last is above highest, and then owed is 0. */
 PERMISSIONS_MUST_USE
-int32_t permissions_owed(uint64_t last, uint64_t highest, uint64_t *owed);
+static inline int32_t permissions_standby_arrive(void *memory, size_t memory_size, struct permissions_standby *standby,
+                                                 const uint32_t *record, size_t record_size)
+{
+    return permissions_arrive(memory, memory_size, &standby->last, &standby->highest, &standby->run, &standby->highest_run,
+                              record, record_size);
+}
+
+/* How many changes the standby has heard of and not applied, counted in the highest run met: those behind last up to the
+ * highest number that came, or all of them where the standby is in a lower run.
+ *   owed   highest - last while run is highest_run, and else highest; 0 means that every record that came of that run is
+ *          done. A change that was lost is counted once a later one has come, and not before
+ * Result: 0; refusal 1 where the numbers are none that a standby has, and then owed is 0. */
+PERMISSIONS_MUST_USE
+int32_t permissions_owed(uint64_t last, uint64_t highest, uint32_t run, uint32_t highest_run, uint64_t *owed);
+
+PERMISSIONS_MUST_USE
+static inline int32_t permissions_standby_owed(const struct permissions_standby *standby, uint64_t *owed)
+{
+    return permissions_owed(standby->last, standby->highest, standby->run, standby->highest_run, owed);
+}
 
 /* ---- reading a table ---- */
 
@@ -468,66 +508,91 @@ int32_t permissions_entry(const void *memory, size_t memory_size, uint32_t place
 /* ---- the link: the main's half ----
  *
  * A main keeps a standby ready by sending it a record of every change of its
- * table. The linked calls are the calls above with these records written. Beside
- * the plain call's arguments the program lends
+ * table. Its changes come in runs. A run begins with a fresh table and the number 0;
+ * whenever the main starts without the table and number that it had, after a board
+ * swap say, it begins a new one. Run numbers are 1 to PERMISSIONS_MAX_RUN, each is used
+ * once, and they rise: the program takes them from a counter that outlives the board,
+ * or from a clock. A run number that is used again, or a lower one, makes the standby
+ * take every record for a repeat.
  *
- *   number                  the main's change number, that of its last record: 0 beside a fresh table, and from then on
- *                           kept, saved and restored with the table. Each record raises it by one
+ *     static uint64_t number;
+ *     result = permissions_begin_run(table, sizeof table, run, &number);
+ *
+ * The linked calls are the calls above with these records written. Beside the plain
+ * call's arguments the program hands in
+ *
+ *   run                     the number of the run that began last
+ *
+ * and lends
+ *
+ *   number                  the main's change number, that of its last record: 0 at a run's beginning, and from then on
+ *                           kept, saved and restored with the table and the run. Each record raises it by one
  *   records, records_space  where the records of this call go, from the start; no more of it is touched. The space
  *                           counts words, not bytes: sizeof records / sizeof records[0]
  *   records_size            how many words hold records. Send them before the space is lent again
  *
- *     static uint64_t number;
  *     static uint32_t records[PERMISSIONS_RECORD_WORDS];
- *     result = permissions_linked_insert(table, sizeof table, &number, kind, path, path_size, directory, directory_size,
+ *     result = permissions_linked_insert(table, sizeof table, run, &number, kind, path, path_size, directory, directory_size,
  *                                        records, PERMISSIONS_RECORD_WORDS, &records_size);
  *     send_to_standby(records, records_size);
  *
  * Answer, text and table are those of the plain call. Each act makes one record: an
  * insert that is reached, even if an equal entry is found; switches set, even to
  * what they were; a revoke, even of nothing. A check or request makes one act or
- * none, a child call at most one for each item. Whoever does acts 1 to n in turn on
- * a fresh table has the main's table after change n. A change that the main makes by
+ * none, a child call at most one for each item. Whoever does acts 1 to n of a run in
+ * turn on a fresh table has the main's table after change n of it. A change that the main makes by
  * a plain call has no record: it is lost for the standby.
  *
- * Two refusals are added to the plain call's:
- *   2  the record space is under 344 words, in a child call under 344 for each item and at least 344; looked at right
+ * Three refusals are added to the plain call's:
+ *   2  the record space is under 345 words, in a child call under 345 for each item and at least 345; looked at right
  *      behind the text space, whether or not there is anything to record
+ *   3  the run number is not from 1 to PERMISSIONS_MAX_RUN
  *   9  an act needs a number above PERMISSIONS_MAX_NUMBER; comes behind 8, and never without an act
  * A refused call leaves number and records as they were, and records_size is 0; the child call names its exceptions.
  *
- * A record is one act with its number, in 32-bit words. In memory they are
+ * A record is one act with its run and number, in 32-bit words. In memory they are
  * uint32_t as the host has them; on the wire the program chooses, and most
  * significant byte first is suggested. A word's top four bits are its kind, and
  * unused bits and bytes are zero:
  *
  *   word      kind  below the kind, from the highest bit on
+ *   run       8     the run number (28 bits): 1 to 268,435,455
  *   head      1     act (4 bits), change number (24 bits): 1 to 16,777,215
  *   length    2     zero (12 bits), the path's length (16 bits): 1 to 1,024
  *   path      3     zero (4 bits), three bytes of the path (24 bits), the first highest
  *   switches  4     zero (23 bits), the complete new switches (5 bits)
  *
  *   act                      the record's words
- *   1  insert granted        head, length, path words
- *   2  insert flag-denied    head, length, path words
- *   3  insert flag-ignored   head, length, path words
- *   4  insert prompt-denied  head, length, path words
- *   5  switches              head, switches
- *   6  revoke a path         head, length, path words
- *   7  revoke all            head
+ *   1  insert granted        run, head, length, path words
+ *   2  insert flag-denied    run, head, length, path words
+ *   3  insert flag-ignored   run, head, length, path words
+ *   4  insert prompt-denied  run, head, length, path words
+ *   5  switches              run, head, switches
+ *   6  revoke a path         run, head, length, path words
+ *   7  revoke all            run, head
  *
  * Acts 1 to 4 go in another sequence than enum permissions_kind. The path is the
- * resolved one; its n bytes take (n + 2) / 3 words. Change 1, insert granted "/c":
+ * resolved one; its n bytes take (n + 2) / 3 words. Change 1 of run 1, insert
+ * granted "/c":
  *
+ *   80000001  run 1
  *   11000001  head: act 1, change 1
  *   20000002  length: 2 bytes
  *   302F6300  path: '/', 'c', and a byte that is not used
  */
 
+/* Begins a run: a fresh table, and the number 0.
+ *   memory, memory_size   where the table goes; only its size matters
+ *   run                   the run's number
+ *   number                becomes 0
+ * Result: 0; refusals 1 and 3, with table and number as they were. */
+PERMISSIONS_MUST_USE
+int32_t permissions_begin_run(void *memory, size_t memory_size, uint32_t run, uint64_t *number);
+
 /* permissions_insert, recorded.
  * Result: 0; refusals 1 to 9. */
 PERMISSIONS_MUST_USE
-int32_t permissions_linked_insert(void *memory, size_t memory_size, uint64_t *number, uint32_t kind,
+int32_t permissions_linked_insert(void *memory, size_t memory_size, uint32_t run, uint64_t *number, uint32_t kind,
                                   const void *path, size_t path_size,
                                   const void *directory, size_t directory_size,
                                   uint32_t *records, size_t records_space, size_t *records_size);
@@ -535,7 +600,7 @@ int32_t permissions_linked_insert(void *memory, size_t memory_size, uint64_t *nu
 /* permissions_switches, recorded.
  * Result: 0; refusals 1 to 3 and 9. */
 PERMISSIONS_MUST_USE
-int32_t permissions_linked_switches(void *memory, size_t memory_size, uint64_t *number, uint32_t switches,
+int32_t permissions_linked_switches(void *memory, size_t memory_size, uint32_t run, uint64_t *number, uint32_t switches,
                                     uint32_t *records, size_t records_space, size_t *records_size);
 
 /* permissions_check and permissions_check_all, recorded; permissions_check_asks and
@@ -543,7 +608,7 @@ int32_t permissions_linked_switches(void *memory, size_t memory_size, uint64_t *
  * Result: 0 it may be read; the state (enum permissions_state, 2 to 5) that it fails with; refusals 1 to 9, with no path
  * 1 to 3 and 9. */
 PERMISSIONS_MUST_USE
-int32_t permissions_linked_check(void *memory, size_t memory_size, uint64_t *number,
+int32_t permissions_linked_check(void *memory, size_t memory_size, uint32_t run, uint64_t *number,
                                  const void *path, size_t path_size,
                                  const void *directory, size_t directory_size,
                                  uint32_t answer, void *text, size_t text_space,
@@ -551,7 +616,7 @@ int32_t permissions_linked_check(void *memory, size_t memory_size, uint64_t *num
                                  uint32_t *asked, size_t *text_size, size_t *records_size);
 
 PERMISSIONS_MUST_USE
-int32_t permissions_linked_check_all(void *memory, size_t memory_size, uint64_t *number,
+int32_t permissions_linked_check_all(void *memory, size_t memory_size, uint32_t run, uint64_t *number,
                                      uint32_t answer, void *text, size_t text_space,
                                      uint32_t *records, size_t records_space,
                                      uint32_t *asked, size_t *text_size, size_t *records_size);
@@ -560,7 +625,7 @@ int32_t permissions_linked_check_all(void *memory, size_t memory_size, uint64_t 
  * Granted inserts, or with no path sets switch GRANTED, so it makes a record.
  * Result: enum permissions_state; refusals 1 to 9, with no path 1 to 3 and 9. */
 PERMISSIONS_MUST_USE
-int32_t permissions_linked_request(void *memory, size_t memory_size, uint64_t *number,
+int32_t permissions_linked_request(void *memory, size_t memory_size, uint32_t run, uint64_t *number,
                                    const void *path, size_t path_size,
                                    const void *directory, size_t directory_size,
                                    uint32_t answer, void *text, size_t text_space,
@@ -568,21 +633,21 @@ int32_t permissions_linked_request(void *memory, size_t memory_size, uint64_t *n
                                    uint32_t *asked, size_t *text_size, size_t *records_size);
 
 PERMISSIONS_MUST_USE
-int32_t permissions_linked_request_all(void *memory, size_t memory_size, uint64_t *number,
+int32_t permissions_linked_request_all(void *memory, size_t memory_size, uint32_t run, uint64_t *number,
                                        uint32_t answer, void *text, size_t text_space,
                                        uint32_t *records, size_t records_space,
                                        uint32_t *asked, size_t *text_size, size_t *records_size);
 
 /* permissions_revoke and permissions_revoke_all, recorded.
- * Result: the state afterwards, in mode partial; refusals 1, 2, 4 to 7 and 9, with no path 1, 2 and 9. */
+ * Result: the state afterwards, in mode partial; refusals 1 to 7 and 9, with no path 1 to 3 and 9. */
 PERMISSIONS_MUST_USE
-int32_t permissions_linked_revoke(void *memory, size_t memory_size, uint64_t *number,
+int32_t permissions_linked_revoke(void *memory, size_t memory_size, uint32_t run, uint64_t *number,
                                   const void *path, size_t path_size,
                                   const void *directory, size_t directory_size,
                                   uint32_t *records, size_t records_space, size_t *records_size);
 
 PERMISSIONS_MUST_USE
-int32_t permissions_linked_revoke_all(void *memory, size_t memory_size, uint64_t *number,
+int32_t permissions_linked_revoke_all(void *memory, size_t memory_size, uint32_t run, uint64_t *number,
                                       uint32_t *records, size_t records_space, size_t *records_size);
 
 /* permissions_child, with what the operator's answers change in the parent's table recorded.
@@ -590,7 +655,7 @@ int32_t permissions_linked_revoke_all(void *memory, size_t memory_size, uint64_t
  * parent keeps what permissions_child says, and so stay the numbers and records of these acts: records_size counts their
  * words, and they are to be sent. Under 9 the parent keeps what the items before the refused one inserted. */
 PERMISSIONS_MUST_USE
-int32_t permissions_linked_child(void *parent, size_t parent_size, uint64_t *number,
+int32_t permissions_linked_child(void *parent, size_t parent_size, uint32_t run, uint64_t *number,
                                  void *child, size_t child_size, uint32_t code,
                                  const void *items, size_t items_size,
                                  const uint32_t *ends, size_t ends_count,
@@ -602,40 +667,44 @@ int32_t permissions_linked_child(void *parent, size_t parent_size, uint64_t *num
 /* ---- the link: images ----
  *
  * A standby that joins late, a swapped one say, has none of the old records. So the
- * main can write its whole table, with its number, as one image:
+ * main can write its whole table, with its run and number, as one image:
  *
  *     static uint32_t image[PERMISSIONS_IMAGE_WORDS];
- *     if (permissions_linked_image(table, sizeof table, number, image, PERMISSIONS_IMAGE_WORDS, &image_size) == 0)
+ *     if (permissions_linked_image(table, sizeof table, run, number, image, PERMISSIONS_IMAGE_WORDS, &image_size) == 0)
  *         send_to_standby(image, image_size);
  *
- * A standby whose last number is below the image's takes table and number, whatever
- * it had, and goes on with the next change. Any other has no less than the image, and
- * answers Repeat. The first word's top four bits tell an image (5) from a record (1):
+ * A standby of a lower run, or of the same run with its last number below the image's,
+ * takes table, run and number, whatever it had, and goes on with the next change. Any
+ * other has no less than the image, and answers Repeat. The second word's top four
+ * bits tell an image (5) from a record (1):
  *
- *     if (words_size > 0 && words[0] >> 28 == 5)
- *         result = permissions_arrive_image(table, sizeof table, &last, &highest, words, words_size);
+ *     if (words_size > 1 && words[1] >> 28 == 5)
+ *         result = permissions_standby_arrive_image(table, sizeof table, &standby, words, words_size);
  *     else
- *         result = permissions_arrive(table, sizeof table, &last, &highest, words, words_size);
+ *         result = permissions_standby_arrive(table, sizeof table, &standby, words, words_size);
  *
  * Images may be lost, repeated and reordered like records and among them: at any
- * time the table is the main's table after change n, and n is the greatest number
- * reached in sequence from the last image taken (proved with the claim above). A
- * change that the image has and the standby never got is a Repeat from then on.
+ * time the table is the main's table in the standby's run after change n, and n is the
+ * greatest number reached in sequence from the last image taken (proved with the claim
+ * above). A change that the image has and the standby never got is a Repeat from then on.
  *
  * An image is 32-bit words, as a record is; unused bits and bytes are zero:
  *
  *   word    kind  below the kind, from the highest bit on
+ *   run     8     the run number (28 bits): 1 to 268,435,455
  *   number  5     zero (4 bits), the main's number (24 bits): 0 to 16,777,215
  *   table   6     zero (11 bits), count of entries (9 bits): 0 to 256, marks (3 bits), switches (5 bits)
  *   entry   7     zero (10 bits), enum permissions_kind (2 bits), the path's length (16 bits): 1 to 1,024
  *   path    3     zero (4 bits), three bytes of the path (24 bits), the first highest
  *
- * It begins with one number word and one table word. For each entry, in list order,
+ * It begins with one run word, one number word and one table word. For each entry, in list order,
  * an entry word and its path words follow, (n + 2) / 3 for n bytes, and nothing
  * behind the last. Paths are resolved ones, at most 32,768 bytes together, and the
  * marks are exactly those of the entries' kinds. Anything else is malformed, and a
- * table with its number has one image. The list D /z, G /c with the number 2:
+ * table with its run and number has one image. The list D /z, G /c of run 1 with the
+ * number 2:
  *
+ *   80000001  run 1
  *   50000002  number: 2
  *   60000220  table: 2 entries, mark 1, no switch
  *   70010002  entry: flag-denied, 2 bytes
@@ -646,25 +715,35 @@ int32_t permissions_linked_child(void *parent, size_t parent_size, uint64_t *num
 
 /* Writes the image of the main's table. Table and number are not changed.
  *   memory, memory_size   the main's table
- *   number                the main's number, by value
+ *   run, number           the main's run and number, by value
  *   image, image_space    where the image goes, from the start; no more of it is touched. The space counts words, not bytes
- *   image_size            how many words the image takes, also where it is refused by 2 or 9, and 0 under 1. So with a space
+ *   image_size            how many words the image takes, also where it is refused by 2, 3 or 9, and 0 under 1. So with a space
  *                         of 0 words the call is refused by 2, and says the size
- * Result: 0; refusals 1, 2 where the space is shorter than this image, and 9 where number is above PERMISSIONS_MAX_NUMBER. */
+ * Result: 0; refusals 1, 2 where the space is shorter than this image, 3 where the run number is not from 1 to
+ * PERMISSIONS_MAX_RUN, and 9 where number is above PERMISSIONS_MAX_NUMBER. */
 PERMISSIONS_MUST_USE
-int32_t permissions_linked_image(const void *memory, size_t memory_size, uint64_t number,
+int32_t permissions_linked_image(const void *memory, size_t memory_size, uint32_t run, uint64_t number,
                                  uint32_t *image, size_t image_space, size_t *image_size);
 
-/* Takes an image, if it has more than the standby.
- *   memory, memory_size   the standby's table
- *   last, highest         the standby's numbers; a refused arrival leaves them
- *   image, image_size     the words of one image, all of them and no more; the size counts words
- * Result: 3 (enum permissions_arrival) where last is below the image's number: the table is then the image's, last its
- * number, and highest too if it was lower; 1 where it is not, and nothing has changed; refusals 1 and 13. An image with the
- * number 0 is never taken. */
+/* Takes an image, if it has more than the standby. permissions_standby_arrive_image, below, lends the four numbers together.
+ *   memory, memory_size                the standby's table
+ *   last, highest, run, highest_run    the standby's numbers; a refused arrival leaves them
+ *   image, image_size                  the words of one image, all of them and no more; the size counts words
+ * Result: 3 (enum permissions_arrival) where the image's run is above the standby's, even if its number is 0, or the same with
+ * last below its number: the table is then the image's, run and last are its run and number, and highest_run and highest
+ * follow; 1 where it is not taken, and no entry is touched; refusals 1 and 13. */
 PERMISSIONS_MUST_USE
 int32_t permissions_arrive_image(void *memory, size_t memory_size, uint64_t *last, uint64_t *highest,
+                                 uint32_t *run, uint32_t *highest_run,
                                  const uint32_t *image, size_t image_size);
+
+PERMISSIONS_MUST_USE
+static inline int32_t permissions_standby_arrive_image(void *memory, size_t memory_size, struct permissions_standby *standby,
+                                                       const uint32_t *image, size_t image_size)
+{
+    return permissions_arrive_image(memory, memory_size, &standby->last, &standby->highest, &standby->run,
+                                    &standby->highest_run, image, image_size);
+}
 
 /* ---- names ---- */
 

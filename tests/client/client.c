@@ -11,6 +11,7 @@ static unsigned char table[PERMISSIONS_TABLE_BYTES];
 static char text[PERMISSIONS_TEXT_BYTES + 1];
 static uint32_t asked;
 static size_t text_size;
+static uint32_t run;
 static uint64_t number;
 static uint32_t records[2 * PERMISSIONS_RECORD_WORDS];
 static size_t records_size;
@@ -282,6 +283,16 @@ static void children(void)
                            items, 10, ends, 1, answers, 1, NULL, 0, &asked));
 }
 
+/* Begins a run of the main. Refused or not, the calls that follow hand in its number. */
+static void begin_run(uint32_t value)
+{
+    char what[32];
+
+    snprintf(what, sizeof what, "run %u", (unsigned)value);
+    run = value;
+    must(what, permissions_begin_run(table, sizeof table, run, &number));
+}
+
 /* The main's number, and the words of the records that a linked call wrote. */
 static void show_records(void)
 {
@@ -295,21 +306,21 @@ static void show_records(void)
 
 static void linked_insert(uint32_t kind, const char *path)
 {
-    must(path, permissions_linked_insert(table, sizeof table, &number, kind, path, strlen(path), NULL, 0,
+    must(path, permissions_linked_insert(table, sizeof table, run, &number, kind, path, strlen(path), NULL, 0,
                                          records, PERMISSIONS_RECORD_WORDS, &records_size));
     show_records();
 }
 
 static void linked_switches(uint32_t value, size_t space)
 {
-    must("switches", permissions_linked_switches(table, sizeof table, &number, value, records, space, &records_size));
+    must("switches", permissions_linked_switches(table, sizeof table, run, &number, value, records, space, &records_size));
     show_records();
 }
 
 static void linked_check(const char *path, const char *directory, uint32_t answer)
 {
     show_check(path, directory, answer,
-               permissions_linked_check(table, sizeof table, &number, path, strlen(path), directory, strlen(directory),
+               permissions_linked_check(table, sizeof table, run, &number, path, strlen(path), directory, strlen(directory),
                                         answer, text, sizeof text, records, PERMISSIONS_RECORD_WORDS,
                                         &asked, &text_size, &records_size));
     show_records();
@@ -321,18 +332,18 @@ static void a_main(void)
     static unsigned char before[sizeof table];
 
     puts("-- a main");
-    fresh();
+    begin_run(1);
     linked_insert(PERMISSIONS_KIND_GRANTED, "/c");
     linked_insert(PERMISSIONS_KIND_GRANTED, "/c"); /* an equal entry is found */
     linked_switches(PERMISSIONS_SWITCH_PROMPT, PERMISSIONS_RECORD_WORDS);
     linked_check("run", "/var", PERMISSIONS_ANSWER_ALLOW);
     linked_check("run", "/var", PERMISSIONS_ANSWER_DENY); /* granted by now */
     linked_check("/k", "/", PERMISSIONS_ANSWER_DENY);
-    show("request /c/d", permissions_linked_request(table, sizeof table, &number, "/c/d", 4, NULL, 0, PERMISSIONS_ANSWER_DENY,
-                                                    text, sizeof text, records, PERMISSIONS_RECORD_WORDS,
-                                                    &asked, &text_size, &records_size));
+    show("request /c/d", permissions_linked_request(table, sizeof table, run, &number, "/c/d", 4, NULL, 0,
+                                                    PERMISSIONS_ANSWER_DENY, text, sizeof text, records,
+                                                    PERMISSIONS_RECORD_WORDS, &asked, &text_size, &records_size));
     show_records();
-    show("revoke /c/d", permissions_linked_revoke(table, sizeof table, &number, "d", 1, "/c", 2,
+    show("revoke /c/d", permissions_linked_revoke(table, sizeof table, run, &number, "d", 1, "/c", 2,
                                                   records, PERMISSIONS_RECORD_WORDS, &records_size));
     show_records();
 
@@ -343,9 +354,41 @@ static void a_main(void)
     linked_check("/var/run", "/", PERMISSIONS_ANSWER_DENY); /* no act */
     puts(memcmp(before, table, sizeof table) == 0 ? "the table is unchanged" : "the table has changed");
     number = PERMISSIONS_MAX_NUMBER - 1;
-    show("revoke all", permissions_linked_revoke_all(table, sizeof table, &number, records, PERMISSIONS_RECORD_WORDS,
+    show("revoke all", permissions_linked_revoke_all(table, sizeof table, run, &number, records, PERMISSIONS_RECORD_WORDS,
                                                      &records_size));
     show_records();
+}
+
+/* A run begins with a fresh table and the number 0. With a number that no run has every call is refused, and changes nothing. */
+static void a_main_that_starts_over(void)
+{
+    static const uint32_t none[] = {PERMISSIONS_MAX_RUN + 1u, UINT32_MAX, 0};
+    static unsigned char before[sizeof table];
+    size_t i, size;
+
+    puts("-- a main that starts over");
+    begin_run(1);
+    linked_switches(PERMISSIONS_SWITCH_PROMPT, PERMISSIONS_RECORD_WORDS);
+    linked_insert(PERMISSIONS_KIND_FLAG_DENIED, "/z");
+    memcpy(before, table, sizeof table);
+    memset(text, '.', sizeof text);
+    for (i = 0; i < sizeof none / sizeof none[0]; i++) {
+        begin_run(none[i]);
+        linked_insert(PERMISSIONS_KIND_GRANTED, "/c");
+    }
+    linked_switches(0, PERMISSIONS_RECORD_WORDS - 1); /* 2 before 3 */
+    linked_insert(PERMISSIONS_KIND_GRANTED, "");      /* 3 before 4 */
+    linked_check("/c", "/", PERMISSIONS_ANSWER_ALLOW);
+    show("an image in no space", permissions_linked_image(table, sizeof table, run, number, NULL, 0, &size));
+    show("number 16777216", permissions_linked_image(table, sizeof table, run, PERMISSIONS_MAX_NUMBER + 1u, records,
+                                                     PERMISSIONS_RECORD_WORDS, &size)); /* 3 before 9 */
+    printf("it would take %u words\n", (unsigned)size);
+    show("memory one byte too small", permissions_begin_run(table, sizeof table - 1, run, &number)); /* 1 before 3 */
+    puts(memcmp(before, table, sizeof table) == 0 && text[0] == '.' && number == 2 ? "nothing is changed"
+                                                                                 : "something has changed");
+    begin_run(PERMISSIONS_MAX_RUN);
+    list(table, sizeof table);
+    linked_insert(PERMISSIONS_KIND_GRANTED, "/c");
 }
 
 /* A child that gets the first of two items, or both. */
@@ -354,7 +397,7 @@ static void linked_child(void *child, size_t count, size_t space)
     static const char items[] = "/etc/pointslogs";
     const uint32_t ends[] = {11, 15}, answers[] = {PERMISSIONS_ANSWER_ALLOW, PERMISSIONS_ANSWER_DENY};
 
-    must("child", permissions_linked_child(table, sizeof table, &number, child, sizeof table, PERMISSIONS_CHILD_LIST,
+    must("child", permissions_linked_child(table, sizeof table, run, &number, child, sizeof table, PERMISSIONS_CHILD_LIST,
                                            items, ends[count - 1], ends, count, answers, count, "/home", 5,
                                            records, space, &asked, &records_size));
     printf("asked %u, ", (unsigned)asked);
@@ -366,8 +409,7 @@ static void a_main_with_children(void)
     static unsigned char child[sizeof table];
 
     puts("-- a main with children");
-    fresh();
-    number = 0;
+    begin_run(1);
     linked_switches(PERMISSIONS_SWITCH_PROMPT, PERMISSIONS_RECORD_WORDS);
     linked_child(child, 2, 2 * PERMISSIONS_RECORD_WORDS - 1);
     linked_child(child, 2, 2 * PERMISSIONS_RECORD_WORDS); /* refused, and the parent keeps its acts with their records */
@@ -378,7 +420,7 @@ static void a_main_with_children(void)
 }
 
 /* An arrival's answer, with the standby's numbers and what is owed after it. */
-static void show_arrival(int32_t result, uint64_t last, uint64_t highest)
+static void show_arrival(int32_t result, const struct permissions_standby *standby)
 {
     uint64_t owed;
 
@@ -386,74 +428,106 @@ static void show_arrival(int32_t result, uint64_t last, uint64_t highest)
         printf("refused %d, %s", (int)-result, permissions_refusal_name(result));
     else
         printf("%s", permissions_arrival_name(result));
-    printf(": last %u, highest %u, ", (unsigned)last, (unsigned)highest);
-    if (permissions_owed(last, highest, &owed) == 0)
+    printf(": last %u of run %u, highest %u of run %u, ", (unsigned)standby->last, (unsigned)standby->run,
+           (unsigned)standby->highest, (unsigned)standby->highest_run);
+    if (permissions_standby_owed(standby, &owed) == 0)
         printf("%u owed\n", (unsigned)owed);
     else
         puts("owed refused");
 }
 
-static void arrive(const uint32_t *record, size_t size, uint64_t *last, uint64_t *highest)
+static void arrive(const uint32_t *record, size_t size, struct permissions_standby *standby)
 {
-    int32_t result = permissions_arrive(table, sizeof table, last, highest, record, size);
-
-    show_arrival(result, *last, *highest);
+    show_arrival(permissions_standby_arrive(table, sizeof table, standby, record, size), standby);
 }
 
-static void arrive_image(const uint32_t *image, size_t size, uint64_t *last, uint64_t *highest)
+static void arrive_image(const uint32_t *image, size_t size, struct permissions_standby *standby)
 {
-    int32_t result = permissions_arrive_image(table, sizeof table, last, highest, image, size);
-
-    show_arrival(result, *last, *highest);
+    show_arrival(permissions_standby_arrive_image(table, sizeof table, standby, image, size), standby);
 }
+
+static const uint32_t one[] = {0x80000001, 0x11000001, 0x20000002, 0x302F6300},
+                      two[] = {0x80000001, 0x12000002, 0x20000002, 0x302F7A00}, three[] = {0x80000001, 0x15000003, 0x40000010};
 
 /* Two records, the second first and the first twice. */
 static void a_standby(void)
 {
-    static const uint32_t one[] = {0x11000001, 0x20000002, 0x302F6300}, two[] = {0x12000002, 0x20000002, 0x302F7A00};
-    uint64_t last = 0, highest = 0;
+    struct permissions_standby standby = {0, 0, 0, 0};
 
     puts("-- a standby");
     fresh();
-    arrive(two, 3, &last, &highest);
-    arrive(one, 3, &last, &highest);
-    arrive(one, 3, &last, &highest);
-    arrive(two, 3, &last, &highest);
+    arrive(two, 4, &standby);
+    arrive(one, 4, &standby);
+    arrive(one, 4, &standby);
+    arrive(two, 4, &standby);
     list(table, sizeof table);
-    arrive(two, 2, &last, &highest);
-    arrive(NULL, 0, &last, &highest);
-    last = 3;
-    arrive(one, 3, &last, &highest);
+    arrive(two, 3, &standby);
+    arrive(two + 1, 3, &standby);
+    arrive(NULL, 0, &standby);
+    standby.last = 3;
+    arrive(one, 4, &standby);
+    standby.last = 2;
+    standby.run = 2;
+    arrive(one, 4, &standby);
 }
 
-/* A main's table after change 2 as an image, for a standby that has none of the records; then the first one late, and the next. */
+/* The main has begun run 5: its change 2 comes first, then run 4, between the two, then all of run 5, and run 1 late. */
+static void a_standby_that_follows(void)
+{
+    static const uint32_t next_one[] = {0x80000005, 0x13000001, 0x20000002, 0x302F6900}, next_two[] = {0x80000005, 0x17000002},
+                          between[] = {0x80000004, 0x15000001, 0x40000001};
+    struct permissions_standby standby = {0, 0, 0, 0};
+
+    puts("-- a standby that follows");
+    fresh();
+    arrive(one, 4, &standby);
+    arrive(two, 4, &standby);
+    arrive(next_two, 2, &standby);
+    list(table, sizeof table);
+    arrive(between, 3, &standby);
+    list(table, sizeof table);
+    arrive(next_one, 4, &standby);
+    arrive(next_two, 2, &standby);
+    arrive(three, 3, &standby);
+    list(table, sizeof table);
+}
+
+/* A main's table after change 2 as an image, for a standby that has none of the records; then the first one late, and the next;
+ * and the image of a run that has just begun. */
 static void an_image(void)
 {
-    static const uint32_t one[] = {0x11000001, 0x20000002, 0x302F6300}, three[] = {0x15000003, 0x40000010};
     static uint32_t image[PERMISSIONS_IMAGE_WORDS];
-    uint64_t last = 0, highest = 0;
+    struct permissions_standby standby = {0, 0, 0, 0};
     size_t size, i;
 
     puts("-- an image");
     fresh();
     insert(PERMISSIONS_KIND_GRANTED, "/c");
     insert(PERMISSIONS_KIND_FLAG_DENIED, "/z");
-    show("an image in no space", permissions_linked_image(table, sizeof table, 2, NULL, 0, &size));
+    show("an image in no space", permissions_linked_image(table, sizeof table, 1, 2, NULL, 0, &size));
     printf("it takes %u words\n", (unsigned)size);
-    show("number 16777216", permissions_linked_image(table, sizeof table, PERMISSIONS_MAX_NUMBER + 1u, image,
+    show("number 16777216", permissions_linked_image(table, sizeof table, 1, PERMISSIONS_MAX_NUMBER + 1u, image,
                                                      PERMISSIONS_IMAGE_WORDS, &size));
-    must("image", permissions_linked_image(table, sizeof table, 2, image, PERMISSIONS_IMAGE_WORDS, &size));
+    must("image", permissions_linked_image(table, sizeof table, 1, 2, image, PERMISSIONS_IMAGE_WORDS, &size));
     printf("image:");
     for (i = 0; i < size; i++)
         printf(" %08X", (unsigned)image[i]);
     printf("\n");
 
     fresh();
-    arrive_image(image, size - 1, &last, &highest);
-    arrive_image(image, size, &last, &highest);
-    arrive(one, 3, &last, &highest);
-    arrive(three, 2, &last, &highest);
-    arrive_image(image, size, &last, &highest);
+    arrive_image(image, size - 1, &standby);
+    arrive_image(image + 1, size - 1, &standby);
+    arrive_image(image, size, &standby);
+    arrive(one, 4, &standby);
+    arrive(three, 3, &standby);
+    arrive_image(image, size, &standby);
+    list(table, sizeof table);
+
+    image[0] = 0x80000002;
+    image[1] = 0x50000000;
+    image[2] = 0x60000000;
+    arrive_image(image, 3, &standby);
+    arrive_image(image, 3, &standby);
     list(table, sizeof table);
 }
 
@@ -553,8 +627,10 @@ int main(void)
     requests();
     children();
     a_main();
+    a_main_that_starts_over();
     a_main_with_children();
     a_standby();
+    a_standby_that_follows();
     an_image();
     saving();
     a_full_table();

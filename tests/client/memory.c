@@ -1,5 +1,6 @@
-/* Memory that is too small or holds no table: every call but fresh refuses it by 1, and no byte changes. Then memory written
- * byte by byte, to see which paths are in resolved form, and refused acts on full tables, which change no byte either. */
+/* Memory that is too small or holds no table: every call but fresh and begin_run refuses it by 1, and no byte changes. Then
+ * memory written byte by byte, to see which paths are in resolved form, and refused acts on full tables, which change no byte
+ * either. */
 #include "permissions.h"
 
 #include <stdio.h>
@@ -9,9 +10,14 @@ enum { SIZE = PERMISSIONS_TABLE_BYTES };
 
 static unsigned char table[SIZE], before[SIZE], child[SIZE];
 static char text[PERMISSIONS_TEXT_BYTES];
-static uint32_t asked, number, second, third, image[2] = {0x50000001, 0x60000000};
-static uint64_t last, highest;
+static uint32_t asked, number, second, third, records[PERMISSIONS_RECORD_WORDS];
+static const uint32_t record[2] = {0x80000001, 0x17000001}, image[3] = {0x80000001, 0x50000001, 0x60000000};
+static struct permissions_standby standby;
+static uint64_t change;
 static size_t start, size;
+
+/* The four numbers of the standby, lent one by one. */
+#define NUMBERS &standby.last, &standby.highest, &standby.run, &standby.highest_run
 
 /* One call on memory of a size, by its number; -100 behind the last. */
 static int32_t call(int which, size_t lent)
@@ -33,9 +39,15 @@ static int32_t call(int which, size_t lent)
     case 13: return permissions_used(table, lent);
     case 14: return permissions_head(table, lent, &number, &second, &third);
     case 15: return permissions_entry(table, lent, 0, &number, &start, &size);
-    case 16: return permissions_linked_image(table, lent, 1, NULL, 0, &size); /* 1 before 2 */
-    case 17: return permissions_arrive_image(table, lent, &last, &highest, image, 2);
-    case 18: return permissions_arrive_image(table, lent, &last, &highest, image, 1); /* 1 before 13 */
+    case 16: return permissions_linked_image(table, lent, 1, 1, NULL, 0, &size); /* 1 before 2 */
+    case 17: return permissions_linked_image(table, lent, 0, 1, NULL, 0, &size);
+    case 18: return permissions_arrive_image(table, lent, NUMBERS, image, 3);
+    case 19: return permissions_arrive_image(table, lent, NUMBERS, image, 2); /* 1 before 13 */
+    case 20: return permissions_arrive(table, lent, NUMBERS, record, 2);
+    case 21: return permissions_arrive(table, lent, NUMBERS, record + 1, 1); /* 1 before 11 */
+    case 22: return permissions_linked_insert(table, lent, 1, &change, 0, "/a", 2, NULL, 0, records, PERMISSIONS_RECORD_WORDS, &size);
+    case 23: return permissions_linked_switches(table, lent, 0, &change, 1, records, PERMISSIONS_RECORD_WORDS, &size); /* 1 before 3 */
+    case 24: return permissions_linked_revoke_all(table, lent, 0, &change, records, 0, &size); /* 1 before 2 and 3 */
     default: return -100;
     }
 }
@@ -51,7 +63,8 @@ static void all_refused(const char *what, size_t lent)
     memcpy(before, table, sizeof table);
     for (which = 0; (result = call(which, lent)) != -100; which++) {
         refused += result == PERMISSIONS_REFUSAL_NO_TABLE;
-        changed += memcmp(before, table, sizeof table) != 0 || child[0] != 0x55 || text[0] != '.' || last + highest != 0;
+        changed += memcmp(before, table, sizeof table) != 0 || child[0] != 0x55 || text[0] != '.' || records[0] != 0
+                   || change + standby.last + standby.highest + standby.run + standby.highest_run != 0;
     }
     printf("%s: %d of %d calls refused by 1, %d changed something\n", what, refused, which, changed);
 }
@@ -62,20 +75,30 @@ static void short_memory(void)
     memset(table, 0, sizeof table);
     all_refused("a fresh table", SIZE - 1);
     printf("fresh: %d\n", (int)permissions_fresh(table, SIZE - 1));
+    change = 7;
+    printf("begin_run: %d", (int)permissions_begin_run(table, SIZE - 1, 1, &change));
+    printf(", %d with run 0, number %d\n", (int)permissions_begin_run(table, SIZE - 1, 0, &change), (int)change);
+    change = 0;
+}
+
+/* What a call made of memory that was damaged before. */
+static void show_made(const char *what, int32_t made)
+{
+    printf("  %s: %d, bytes %d, behind it as it was: %d\n", what, (int)made, (int)permissions_used(table, SIZE),
+           memcmp(before + 4, table + 4, SIZE - 4) == 0);
 }
 
 static void damaged(const char *what, size_t at, unsigned char byte)
 {
-    int32_t made;
-
     if (permissions_fresh(table, SIZE) != 0 || permissions_insert(table, SIZE, 1, "/z", 2, NULL, 0) != 0)
         puts("no table to damage");
     table[at] = byte;
     all_refused(what, SIZE);
     memcpy(before, table, sizeof table);
-    made = permissions_fresh(table, SIZE);
-    printf("  fresh: %d, bytes %d, behind it as it was: %d\n", (int)made, (int)permissions_used(table, SIZE),
-           memcmp(before + 4, table + 4, SIZE - 4) == 0);
+    show_made("begin_run with run 0", permissions_begin_run(table, SIZE, 0, &change)); /* only the size counts before 3 */
+    show_made("fresh", permissions_fresh(table, SIZE));
+    memcpy(table, before, sizeof table);
+    show_made("begin_run", permissions_begin_run(table, SIZE, 1, &change));
 }
 
 static void damaged_memory(void)

@@ -17,7 +17,8 @@ static char text[PERMISSIONS_TEXT_BYTES], relative[PERMISSIONS_MAX_PATH_BYTES], 
 static size_t relative_size;
 static uint32_t number, more, last, modem, records[2 * PERMISSIONS_RECORD_WORDS], image[PERMISSIONS_IMAGE_WORDS];
 static size_t size, start, words, image_words;
-static uint64_t change, applied, highest, owed;
+static uint64_t change, owed;
+static struct permissions_standby standby;
 static volatile int32_t result;
 
 static void nothing(void) { result = 0; }
@@ -54,60 +55,66 @@ static void inherit(void)
 }
 static void linked_insert(void)
 {
-    result = permissions_linked_insert(table, sizeof table, &change, 1, relative, relative_size, directory, 500, records,
+    result = permissions_linked_insert(table, sizeof table, 1, &change, 1, relative, relative_size, directory, 500, records,
                                        PERMISSIONS_RECORD_WORDS, &words);
 }
 static void linked_switches(void)
 {
-    result = permissions_linked_switches(table, sizeof table, &change, 16, records, PERMISSIONS_RECORD_WORDS, &words);
+    result = permissions_linked_switches(table, sizeof table, 1, &change, 16, records, PERMISSIONS_RECORD_WORDS, &words);
 }
 static void linked_check(void)
 {
-    result = permissions_linked_check(table, sizeof table, &change, relative, relative_size, directory, 500, 1, text, sizeof text,
+    result = permissions_linked_check(table, sizeof table, 1, &change, relative, relative_size, directory, 500, 1, text, sizeof text,
                                       records, PERMISSIONS_RECORD_WORDS, &number, &size, &words);
 }
 static void linked_check_all(void)
 {
-    result = permissions_linked_check_all(table, sizeof table, &change, 0, text, sizeof text, records, PERMISSIONS_RECORD_WORDS,
+    result = permissions_linked_check_all(table, sizeof table, 1, &change, 0, text, sizeof text, records, PERMISSIONS_RECORD_WORDS,
                                           &number, &size, &words);
 }
 static void linked_request(void)
 {
-    result = permissions_linked_request(table, sizeof table, &change, relative, relative_size, directory, 500, 0, text, sizeof text,
+    result = permissions_linked_request(table, sizeof table, 1, &change, relative, relative_size, directory, 500, 0, text, sizeof text,
                                         records, PERMISSIONS_RECORD_WORDS, &number, &size, &words);
 }
 static void linked_request_all(void)
 {
-    result = permissions_linked_request_all(table, sizeof table, &change, 1, text, sizeof text, records, PERMISSIONS_RECORD_WORDS,
+    result = permissions_linked_request_all(table, sizeof table, 1, &change, 1, text, sizeof text, records, PERMISSIONS_RECORD_WORDS,
                                             &number, &size, &words);
 }
 static void linked_revoke(void)
 {
-    result = permissions_linked_revoke(table, sizeof table, &change, relative, relative_size, directory, 500, records,
+    result = permissions_linked_revoke(table, sizeof table, 1, &change, relative, relative_size, directory, 500, records,
                                        PERMISSIONS_RECORD_WORDS, &words);
 }
 static void linked_revoke_all(void)
 {
-    result = permissions_linked_revoke_all(table, sizeof table, &change, records, PERMISSIONS_RECORD_WORDS, &words);
+    result = permissions_linked_revoke_all(table, sizeof table, 1, &change, records, PERMISSIONS_RECORD_WORDS, &words);
 }
 static void linked_child(void)
 {
     uint32_t ends[2], answers[2] = {1, 0};
     ends[0] = (uint32_t)relative_size / 2;
     ends[1] = (uint32_t)relative_size;
-    result = permissions_linked_child(table, sizeof table, &change, child, sizeof child, 3, relative, relative_size, ends, 2,
+    result = permissions_linked_child(table, sizeof table, 1, &change, child, sizeof child, 3, relative, relative_size, ends, 2,
                                       answers, 2, directory, 500, records, 2 * PERMISSIONS_RECORD_WORDS, &number, &words);
 }
-static void arrive(void) { result = permissions_arrive(child, sizeof child, &applied, &highest, records, words); }
+static void begin_run(void) { result = permissions_begin_run(child, sizeof child, 2, &change); }
+static void arrive(void) { result = permissions_standby_arrive(child, sizeof child, &standby, records, words); }
+static void arrive_higher(void)
+{
+    records[0] = 0x80000002;
+    result = permissions_standby_arrive(child, sizeof child, &standby, records, words);
+}
 static void linked_image(void)
 {
-    result = permissions_linked_image(table, sizeof table, change, image, PERMISSIONS_IMAGE_WORDS, &image_words);
+    result = permissions_linked_image(table, sizeof table, 1, change, image, PERMISSIONS_IMAGE_WORDS, &image_words);
 }
 static void arrive_image(void)
 {
-    result = permissions_arrive_image(child, sizeof child, &applied, &highest, image, image_words);
+    result = permissions_standby_arrive_image(child, sizeof child, &standby, image, image_words);
 }
-static void say_owed(void) { result = permissions_owed(applied, highest, &owed); }
+static void say_owed(void) { result = permissions_standby_owed(&standby, &owed); }
 static void unit_check(void) { result = permissions_unit_check(&modem, 1, 1, &number); }
 static void unit_request(void) { result = permissions_unit_request(&modem, 1, 1, &number); }
 static void unit_revoke(void) { result = permissions_unit_revoke(&modem); }
@@ -124,7 +131,8 @@ static const struct {
              {"linked_insert", linked_insert}, {"linked_switches", linked_switches}, {"linked_check", linked_check},
              {"linked_check_all", linked_check_all}, {"linked_request", linked_request},
              {"linked_request_all", linked_request_all}, {"linked_revoke", linked_revoke},
-             {"linked_revoke_all", linked_revoke_all}, {"linked_child", linked_child}, {"arrive", arrive}, {"owed", say_owed},
+             {"linked_revoke_all", linked_revoke_all}, {"linked_child", linked_child}, {"begin_run", begin_run},
+             {"arrive", arrive}, {"arrive, a new run", arrive_higher}, {"owed", say_owed},
              {"linked_image", linked_image}, {"arrive_image", arrive_image},
              {"unit_check", unit_check}, {"unit_request", unit_request}, {"unit_revoke", unit_revoke}};
 
@@ -163,14 +171,15 @@ static void fill(void)
     relative_size = 500;
     for (i = 7; i < (int)relative_size; i += 9)
         relative[i] = '/';
-    /* change 1, an insert of a long path, for a standby with the same entries */
+    /* change 1 of run 1, an insert of a long path, for a standby of that run with the same entries */
     memcpy(child, table, sizeof child);
-    change = applied = highest = 0;
+    change = standby.last = standby.highest = 0;
+    standby.run = standby.highest_run = 1;
     modem = PERMISSIONS_STATE_PROMPT;
-    result = permissions_linked_insert(table, sizeof table, &change, PERMISSIONS_KIND_FLAG_DENIED, relative, relative_size,
+    result = permissions_linked_insert(table, sizeof table, 1, &change, PERMISSIONS_KIND_FLAG_DENIED, relative, relative_size,
                                        directory, 500, records, PERMISSIONS_RECORD_WORDS, &words);
     /* the image after it, for the same standby */
-    result = permissions_linked_image(table, sizeof table, change, image, PERMISSIONS_IMAGE_WORDS, &image_words);
+    result = permissions_linked_image(table, sizeof table, 1, change, image, PERMISSIONS_IMAGE_WORDS, &image_words);
     memcpy(table, child, sizeof table);
 }
 

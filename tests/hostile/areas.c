@@ -19,6 +19,8 @@ struct area areas[AREAS] = {
     [MAIN_NUMBER] = {.name = "main's number", .room = sizeof(uint64_t)},
     [LAST] = {.name = "last number", .room = sizeof(uint64_t)},
     [HIGHEST] = {.name = "highest number", .room = sizeof(uint64_t)},
+    [OWN_RUN] = {.name = "standby's run", .room = sizeof(uint32_t)},
+    [HIGHEST_RUN] = {.name = "highest run", .room = sizeof(uint32_t)},
     [STATE] = {.name = "state", .room = sizeof(uint32_t)},
     [PATH] = {.name = "path", .room = LONGEST_PATH},
     [DIRECTORY] = {.name = "directory", .room = LONGEST_PATH},

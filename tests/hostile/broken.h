@@ -1,12 +1,15 @@
 /* Faults that a build with -DBREAK puts into what a call did, one at a time, by a third argument: hostile CALLS SEED FAULT.
- * From FIRST_WITHOUT_MODEL to LAST_WITHOUT_MODEL, and from IMAGE_WITHOUT_MODEL on, nothing is held against the model, so that
- * what calls say of each other must notice the fault. tests/hostile-test sees that each up to LAST_FAULT is noticed. */
+ * From FIRST_WITHOUT_MODEL to LAST_WITHOUT_MODEL, from IMAGE_WITHOUT_MODEL to LAST_IMAGE_WITHOUT_MODEL, and from
+ * RUN_WITHOUT_MODEL on, nothing is held against the model, so that what calls say of each other must notice the fault.
+ * tests/hostile-test sees that each up to LAST_FAULT is noticed. */
 enum {
     FIRST_BROKEN_CALL = 1000,
     FIRST_WITHOUT_MODEL = 59,
     LAST_WITHOUT_MODEL = 77,
     IMAGE_WITHOUT_MODEL = 127,
-    LAST_FAULT = 140
+    LAST_IMAGE_WITHOUT_MODEL = 140,
+    RUN_WITHOUT_MODEL = 205,
+    LAST_FAULT = 230
 };
 
 static unsigned long fault;
@@ -43,6 +46,11 @@ static void set_long(int area, uint64_t number)
     memcpy(areas[area].start, &number, sizeof number);
 }
 
+static void set_number(int area, uint32_t number)
+{
+    memcpy(areas[area].start, &number, sizeof number);
+}
+
 static void skip_number(void)
 {
     set_long(MAIN_NUMBER, long_in(MAIN_NUMBER) + 1);
@@ -61,27 +69,45 @@ static void restore_memory(void)
     memcpy(areas[MEMORY].start, standby_slot.bytes, turn.memory_size);
 }
 
-/* Does the act, whatever its number. */
+/* What arrives is of the standby's run, or of a higher one. */
+static int is_own(void)
+{
+    return arriving_run() == turn.had.run;
+}
+
+static int is_higher(void)
+{
+    return arriving_run() > turn.had.run;
+}
+
+/* Does the act, whatever its run and number. */
 static void do_anyway(void)
 {
     uint64_t last = arriving_number() - 1u, highest = last;
+    uint32_t run = arriving_run(), highest_run = run;
 
-    if (permissions_arrive(turn.memory, turn.memory_size, &last, &highest, turn.words, turn.words_size) < 0)
+    if (permissions_arrive(turn.memory, turn.memory_size, &last, &highest, &run, &highest_run, turn.words, turn.words_size) < 0)
         restore_memory();
+}
+
+/* Whether words are a record. To a standby above every run each one is a repeat. */
+static int is_record(const uint32_t *words, size_t size)
+{
+    static struct table table;
+    struct standby standby = {0, 0, UINT32_MAX, UINT32_MAX};
+
+    return model_arrive(&table, &standby, words, size) == REPEAT;
 }
 
 static int is_malformed(void)
 {
-    static struct table table;
-    struct standby standby = {MAX_NUMBER, MAX_NUMBER};
-
-    return model_arrive(&table, &standby, turn.words, turn.words_size) == -11;
+    return !is_record(turn.words, turn.words_size);
 }
 
 /* The next one to whoever looks at the low 24 bits of n alone. */
 static int looks_next(void)
 {
-    return ((turn.had.last + 1) & MAX_NUMBER) == arriving_number();
+    return is_own() && ((turn.had.last + 1) & MAX_NUMBER) == arriving_number();
 }
 
 /* The next one said to be early, and left. */
@@ -89,11 +115,19 @@ static void put_off(void)
 {
     restore_memory();
     set_long(LAST, turn.had.last);
+    set_number(OWN_RUN, turn.had.run);
 }
 
+/* The memory holds a table, and n is above h in the highest run. */
+static int is_above_h(void)
+{
+    return turn.holds && turn.had.run == turn.had.highest_run && turn.had.last > turn.had.highest;
+}
+
+/* The call said that something is owed. */
 static int owes(void)
 {
-    return current == OWED && turn.had.last < turn.had.highest;
+    return current == OWED && long_in(NUMBER) > 0;
 }
 
 /* Faults of arrivals and of what is owed, in the lent areas. */
@@ -113,7 +147,7 @@ static void break_standby(int32_t result)
     case 43: if (arrives(result, EARLY)) do_anyway(); break;                              /* an early one applied */
     case 44: if (arrives(result, -11)) change(WORDS, 0); break;                           /* a word that is only read */
     case 45: if (owes()) set_long(NUMBER, 0); break;                                      /* nothing owed */
-    case 46: if (owes()) set_long(NUMBER, turn.had.highest - turn.had.last + 1); break;   /* too much owed */
+    case 46: if (owes()) set_long(NUMBER, long_in(NUMBER) + 1); break;                    /* too much owed */
     case 47: if (current == OWED && !owes()) change(NUMBER, 0); break;                    /* owed with h not above n */
     case 68: if (arrives(result, APPLIED) && arriving_number() > 1) restore_memory(); break; /* change 1 alone applied */
     case 69: if (arrives(result, APPLIED)) set_long(LAST, long_in(LAST) + 1); break;      /* an invented n */
@@ -124,7 +158,7 @@ static void break_standby(int32_t result)
     case 74: if (owes()) set_long(NUMBER, 0); break;                                      /* nothing owed */
     case 137: if (owes()) set_long(NUMBER, turn.had.highest); break;                      /* h owed */
     case 138: if (owes()) set_long(NUMBER, turn.had.last); break;                         /* n owed */
-    case 139: if (owes()) set_long(NUMBER, turn.had.highest - turn.had.last - 1); break;  /* one less owed */
+    case 139: if (owes()) set_long(NUMBER, long_in(NUMBER) - 1); break;                   /* one less owed */
     case 140: if (owes()) set_long(NUMBER, 1); break;                                     /* one owed, for any number */
     }
 }
@@ -151,7 +185,7 @@ static int is_wrong_by(uint32_t wrong)
 /* The count of entries that an image says. */
 static uint32_t image_count(void)
 {
-    return word_in(WORDS, 1) >> 8 & 511;
+    return word_in(WORDS, 2) >> 8 & 511;
 }
 
 static void keep_old_count(void)
@@ -177,21 +211,29 @@ static void exchange_in_table(void)
 
 static void exchange_in_image(void)
 {
-    for (size_t i = 2; i < size_in(NUMBER); i++) {
+    for (size_t i = 3; i < size_in(NUMBER); i++) {
         uint32_t word = word_in(IMAGE, i);
         if (word >> 28 == 7 && (word >> 17 & 1) != 0)
             change(IMAGE, 4 * i + 2); /* bit 16 */
     }
 }
 
+/* Takes the image, whatever its run and number. */
+static int32_t take_anyway(void)
+{
+    uint64_t last = 0, highest = 0;
+    uint32_t run = 0, highest_run = 0;
+
+    return permissions_arrive_image(turn.memory, turn.memory_size, &last, &highest, &run, &highest_run, turn.words,
+                                    turn.words_size);
+}
+
 /* An image with the number n is taken once more. */
 static int32_t take_at_n(int32_t result)
 {
-    uint64_t last = turn.had.last - 1, highest = last;
-
-    if (!takes_image(result, REPEAT) || turn.had.last == 0 || arriving_number() != turn.had.last)
+    if (!takes_image(result, REPEAT) || !is_own() || arriving_number() != turn.had.last)
         return result;
-    return permissions_arrive_image(turn.memory, turn.memory_size, &last, &highest, turn.words, turn.words_size);
+    return take_anyway();
 }
 
 /* Whether the table has a path of 1,024 bytes, by the model. */
@@ -212,14 +254,14 @@ static void break_image_areas(int32_t result)
     case 83: if (taken) keep_old_count(); break;                                   /* the old table's tail */
     case 84: if (taken) set_long(LAST, turn.had.last); break;                      /* n not set */
     case 85: if (taken) set_long(LAST, long_in(LAST) + 1); break;                  /* n raised by one */
-    case 86: if (taken) set_long(HIGHEST, turn.had.highest); break;                /* h left below n */
+    case 86: if (taken) set_long(HIGHEST, turn.had.highest); break;                /* h left as it was */
     case 87: if (taken) set_long(HIGHEST, long_in(LAST)); break;                   /* h falls to n */
     case 88: if (taken) change(MEMORY, areas[MEMORY].size - 1); break;             /* a byte behind the table */
     case 89: if (taken) exchange_in_table(); break;                                /* P for I */
     case 90: if (takes_image(result, -13)) change(MEMORY, 2); break;               /* a refused image changes a byte */
     case 91: if (takes_image(result, -13)) set_long(HIGHEST, turn.had.highest + 1); break; /* h raised by a refusal */
     case 92: if (takes_image(result, REPEAT)) change(MEMORY, 2); break;            /* a repeat changes a byte */
-    case 93: if (written) change(IMAGE, 0); break;                                 /* another number */
+    case 93: if (written) change(IMAGE, 4); break;                                 /* another number */
     case 94: if (written) change(IMAGE, 4 * size_in(NUMBER)); break;               /* a word behind the image */
     case 95: if (writes_image(result, -2)) change(IMAGE, 0); break;                /* a word written, though refused by 2 */
     case 96: if (writes_image(result, -9)) change(IMAGE, 0); break;                /* the same by 9 */
@@ -231,10 +273,10 @@ static void break_image_areas(int32_t result)
     case 102: if (written) change(IMAGE, 4 * size_in(NUMBER) - 4); break;          /* another byte in the last word */
     case 127: if (taken) keep_old_count(); break;                                  /* the old table's tail */
     case 128: if (taken) set_long(LAST, turn.had.last); break;                     /* n not set */
-    case 129: if (taken) set_long(HIGHEST, turn.had.highest); break;               /* h left below n */
+    case 129: if (taken) set_long(HIGHEST, turn.had.highest); break;               /* h left as it was */
     case 130: if (taken) change(MEMORY, 8); break;                                 /* another path */
     case 131: if (takes_image(result, -13)) change(MEMORY, 2); break;              /* a refused image changes a byte */
-    case 132: if (written) change(IMAGE, 0); break;                                /* another number */
+    case 132: if (written) change(IMAGE, 4); break;                                /* another number */
     case 133: if (written) exchange_in_image(); break;                             /* P for I */
     case 134: if (writes_image(result, -2)) set_size(NUMBER, 0); break;            /* no size told under 2 */
     case 135: if (written) set_size(NUMBER, size_in(NUMBER) - 1); break;           /* an image one word too short */
@@ -263,11 +305,11 @@ static int32_t break_image(int32_t result)
     case 114: return refused && is_wrong_by(WRONG_SUM) ? TAKEN : result;      /* over 32,768 path bytes */
     case 115: return refused && is_wrong_by(WRONG_MARKS) ? TAKEN : result;    /* marks not checked */
     case 116: return takes_image(result, -1) && !is_wrong_by(0) ? -13 : result;                    /* 13 before 1 */
-    case 117: return takes_image(result, -1) && turn.holds && is_wrong_by(0) ? REPEAT : result;    /* n above h */
-    case 118: return repeat && number == 0 ? -13 : result;                    /* number 0 is malformed */
-    case 119: return repeat && (turn.had.last & MAX_NUMBER) < number ? TAKEN : result;             /* n by its low bits */
-    case 120: return taken && number - turn.had.last > 1 ? EARLY : result;    /* Early said to an image */
-    case 121: return taken && number <= turn.had.highest ? REPEAT : result;   /* h in place of n */
+    case 117: return takes_image(result, -1) && is_above_h() && is_wrong_by(0) ? REPEAT : result;  /* n above h */
+    case 118: return (repeat || taken) && number == 0 ? -13 : result;         /* number 0 is malformed */
+    case 119: return repeat && is_own() && (turn.had.last & MAX_NUMBER) < number ? TAKEN : result; /* n by its low bits */
+    case 120: return taken && is_own() && number - turn.had.last > 1 ? EARLY : result;             /* Early said to an image */
+    case 121: return taken && is_own() && number <= turn.had.highest ? REPEAT : result;            /* h in place of n */
     case 122: return taken && image_count() == 0 ? -13 : result;              /* no image of an empty table */
     case 123: return take_at_n(result);                                       /* an image at n taken again */
     case 124: return taken && turn.after.count == MAX_ENTRIES ? -13 : result; /* 256 entries are too many */
@@ -276,6 +318,278 @@ static int32_t break_image(int32_t result)
     case 136: return take_at_n(result);                                       /* the same */
     default: return result;
     }
+}
+
+/* ---- runs: arrivals */
+
+/* An arrival of a record or an image that is not refused; of a run above the highest one; below it. */
+static int is_met(int32_t result)
+{
+    return (current == ARRIVE || current == ARRIVE_IMAGE) && result >= 0;
+}
+
+static int is_met_above(int32_t result)
+{
+    return is_met(result) && arriving_run() > turn.had.highest_run;
+}
+
+static int is_met_below(int32_t result)
+{
+    return is_met(result) && arriving_run() < turn.had.highest_run;
+}
+
+/* A record, or an image, that brings the standby into a higher run. */
+static int moves(int32_t result)
+{
+    return arrives(result, APPLIED) && is_higher();
+}
+
+static int moves_by_image(int32_t result)
+{
+    return takes_image(result, TAKEN) && is_higher();
+}
+
+/* A record of a lower run. */
+static int is_past(int32_t result)
+{
+    return arrives(result, REPEAT) && !is_own();
+}
+
+/* A move on top of the old table. */
+static void do_on_old_table(void)
+{
+    restore_memory();
+    do_anyway();
+}
+
+/* Faults about runs in what an arrival leaves. */
+static void break_arrival_runs(int32_t result)
+{
+    const struct standby had = turn.had;
+    uint32_t run = arriving_run(), number = arriving_number();
+    int above = is_met_above(result), lower = is_met_below(result);
+
+    switch (fault) {
+    case 141: case 205: if (moves(result)) do_on_old_table(); break;                     /* the old table kept */
+    case 142: case 206: if (moves(result)) set_long(LAST, had.last); break;              /* n kept */
+    case 143: case 207: if (moves(result)) set_number(OWN_RUN, had.run); break;          /* the old run kept */
+    case 144: case 208: if (moves_by_image(result)) set_long(LAST, had.last); break;     /* n kept by an image */
+    case 145: case 209: if (moves_by_image(result)) set_number(OWN_RUN, had.run); break; /* the old run kept by one */
+    case 146: case 210: if (above && had.highest > number) set_long(HIGHEST, had.highest); break; /* h kept from the old run */
+    case 147: case 211: if (above) set_number(HIGHEST_RUN, had.highest_run); break;      /* the highest run kept */
+    case 148: case 212: if (lower) set_number(HIGHEST_RUN, run); break;                  /* the highest run falls */
+    case 149: case 213: if (lower && had.highest < number) set_long(HIGHEST, number); break; /* h of any run */
+    case 150: if (lower) set_long(HIGHEST, number); break;                               /* h falls to a lower run's */
+    case 151: if (arrives(result, EARLY)) set_number(OWN_RUN, run); break;               /* an early one moves the run */
+    case 152: if (arrives(result, EARLY) && is_higher()) set_long(LAST, 0); break;       /* one of a higher run clears n */
+    case 153: if (is_past(result)) set_number(OWN_RUN, run); break;                      /* back to a lower run */
+    case 154: if (arrives(result, -11)) set_number(HIGHEST_RUN, had.highest_run + 1); break;     /* met, though refused */
+    case 155: if (takes_image(result, -13)) set_number(HIGHEST_RUN, had.highest_run + 1); break; /* so with an image */
+    case 156: if (arrives(result, -1)) change(OWN_RUN, 0); break;                        /* a refusal changes the run */
+    }
+}
+
+/* What arrived is done, with run and n. */
+static int32_t apply_anyway(void)
+{
+    do_anyway();
+    set_long(LAST, arriving_number());
+    set_number(OWN_RUN, arriving_run());
+    return APPLIED;
+}
+
+/* What the arrival did is undone, and it says this instead. */
+static int32_t undo(int32_t said)
+{
+    put_off();
+    set_long(HIGHEST, turn.had.highest);
+    set_number(HIGHEST_RUN, turn.had.highest_run);
+    return said;
+}
+
+static int32_t put_off_move(void)
+{
+    put_off();
+    return EARLY;
+}
+
+/* Whether the table from before a move has no room for its change. */
+static int was_full(void)
+{
+    static struct table table;
+    struct standby standby = {0, 1, arriving_run(), arriving_run()};
+
+    (void)model_reads(standby_slot.bytes, turn.memory_size, &table);
+    return model_arrive(&table, &standby, turn.words, turn.words_size) == -8;
+}
+
+/* Of a run that is the standby's to whoever looks at its low 28 bits alone, and behind n. */
+static int looks_own(void)
+{
+    return !is_own() && arriving_run() == (turn.had.run & MAX_RUN) && arriving_number() > turn.had.last;
+}
+
+/* Faults in the answer to a record or an image that is well formed, by its run. */
+static int32_t break_answer(int32_t result)
+{
+    uint64_t number = arriving_number();
+    int early = arrives(result, EARLY) && is_higher();
+
+    switch (fault) {
+    case 157: case 214: return early && number == 2 ? apply_anyway() : result;       /* a higher run's change 2 applied */
+    case 158: case 215: return is_past(result) ? apply_anyway() : result;            /* a lower run's record applied */
+    case 159: case 216: return moves(result) && was_full() ? undo(-8) : result;      /* 8 said to a higher run's change 1 */
+    case 160: case 217: return moves(result) ? put_off_move() : result;              /* Early said to it */
+    case 161: return moves(result) && number <= turn.had.last ? REPEAT : result;     /* Repeat said to it, by its number */
+    case 162: return early && number <= turn.had.last ? REPEAT : result;             /* Repeat said to a later one */
+    case 163: return is_past(result) && looks_own() ? EARLY : result;                /* the run by its low bits */
+    case 164: case 218: return moves_by_image(result) && number == 0 ? undo(REPEAT) : result; /* nothing new in number 0 */
+    case 165: return moves_by_image(result) && number <= turn.had.last ? REPEAT : result;       /* images by numbers alone */
+    case 166: case 219: return takes_image(result, REPEAT) && !is_own() ? take_anyway() : result; /* a lower run's taken */
+    default: return result;
+    }
+}
+
+/* The lent words behind `before` words of run 1, or with run 1 in their first. */
+static const uint32_t *with_run_1(size_t before)
+{
+    static uint32_t words[MOST_WORDS + 1];
+
+    if (turn.words_size > 0)
+        memcpy(words + before, turn.words, turn.words_size * sizeof words[0]);
+    words[0] = UINT32_C(8) << 28 | 1;
+    return words;
+}
+
+static int has_run_0(void)
+{
+    return turn.words_size > 0 && turn.words[0] == UINT32_C(8) << 28;
+}
+
+static int has_two_runs(void)
+{
+    return turn.words_size > 1 && turn.words[0] >> 28 == 8 && turn.words[1] >> 28 == 8;
+}
+
+static int is_image(const uint32_t *words, size_t size)
+{
+    return model_wrong_image(words, size) == 0;
+}
+
+/* Words taken that are malformed for their run word alone; to say Repeat changes nothing else. */
+static int32_t break_run_word(int32_t result)
+{
+    const uint32_t *words = turn.words;
+    size_t size = turn.words_size;
+    int record = arrives(result, -11), image = takes_image(result, -13);
+
+    switch (fault) {
+    case 167: return record && has_run_0() && is_record(with_run_1(0), size) ? REPEAT : result; /* run 0 */
+    case 168: return record && is_record(with_run_1(1), size + 1) ? REPEAT : result;            /* no run word */
+    case 169: return record && has_two_runs() && is_record(words + 1, size - 1) ? REPEAT : result; /* two of them */
+    case 170: return record && size == 1 && words[0] >> 28 == 8 ? REPEAT : result;              /* nothing else */
+    case 171: return image && is_wrong_by(WRONG_RUN) ? REPEAT : result;                         /* the same of images */
+    case 172: return image && is_image(with_run_1(1), size + 1) ? REPEAT : result;
+    case 173: return image && has_two_runs() && is_image(words + 1, size - 1) ? REPEAT : result;
+    case 174: return image && size == 1 && words[0] >> 28 == 8 ? REPEAT : result;
+    default: return result;
+    }
+}
+
+/* A standby's numbers that are refused for its run alone, and those with n above h as it may be. */
+static int is_above_highest_run(void)
+{
+    return turn.had.run > turn.had.highest_run && turn.had.last <= turn.had.highest;
+}
+
+static int may_be_above_h(void)
+{
+    return turn.had.run < turn.had.highest_run && turn.had.last > turn.had.highest;
+}
+
+/* Faults in what a standby's numbers may be. */
+static int32_t break_numbers(int32_t result)
+{
+    int is_none = result == -1 && is_above_highest_run();
+
+    switch (fault) {
+    case 175: case 220: return is_met(result) && may_be_above_h() ? undo(-1) : result;    /* n above h in a lower run refused */
+    case 176: return current == OWED && result == 0 && may_be_above_h() ? -1 : result;    /* so for what is owed */
+    case 177: return current == ARRIVE && is_none && turn.holds ? REPEAT : result;        /* a run above the highest accepted */
+    case 178: return current == ARRIVE_IMAGE && is_none && turn.holds ? REPEAT : result;  /* so for an image */
+    case 179: return current == OWED && is_none ? 0 : result;                             /* so for what is owed */
+    default: return result;
+    }
+}
+
+/* ---- runs: the main, and what is owed */
+
+/* The beginning of a run with this one result. */
+static int begins(int32_t result, int32_t one)
+{
+    return current == BEGIN_RUN && result == one;
+}
+
+/* What is owed to a standby in a lower run than the highest. */
+static int owes_all(int32_t result)
+{
+    return current == OWED && result == 0 && turn.had.run < turn.had.highest_run;
+}
+
+/* Faults about runs in the lent areas of other calls. */
+static void break_run_areas(int32_t result)
+{
+    switch (fault) {
+    case 180: case 221: if (has_records()) change(RECORDS, 0); break;                      /* another run in a record */
+    case 181: case 222: if (has_records()) change(RECORDS, 3); break;                      /* another kind of word */
+    case 182: case 223: if (writes_image(result, 0)) change(IMAGE, 0); break;              /* another run in an image */
+    case 183: if (writes_image(result, -3)) change(IMAGE, 0); break;                       /* a word written under 3 */
+    case 184: case 224: if (writes_image(result, -3)) set_size(NUMBER, 0); break;          /* no size told under 3 */
+    case 185: case 225: if (begins(result, 0)) set_long(MAIN_NUMBER, turn.first); break;   /* the number left */
+    case 186: case 226: if (begins(result, 0)) change(MEMORY, 2); break;                   /* a switch set */
+    case 187: if (begins(result, 0)) change(MEMORY, 4); break;                             /* a byte behind the fresh table */
+    case 188: case 227: if (begins(result, -3)) set_long(MAIN_NUMBER, 0); break;           /* the number, though refused */
+    case 189: if (begins(result, -3)) change(MEMORY, 0); break;                            /* the table, though refused */
+    case 190: case 228: if (owes_all(result)) set_long(NUMBER, turn.had.highest - turn.had.last); break; /* h - n of two runs */
+    case 191: case 229: if (owes_all(result)) set_long(NUMBER, 0); break;                  /* nothing owed in a higher run */
+    }
+}
+
+/* A linked call, and its run is one or, with 0, is none. */
+static int is_linked(int is_run)
+{
+    return turn.linked != NULL && model_is_run(turn.run) == is_run;
+}
+
+/* Faults in which runs a main may have. */
+static int32_t break_main_run(int32_t result)
+{
+    int refused = result == -3 && is_linked(0), done = result >= 0 && is_linked(1), is_run = model_is_run(turn.run);
+
+    switch (fault) {
+    case 192: return refused && turn.run == MAX_RUN + 1 ? 0 : result;                      /* run 2^28 accepted */
+    case 193: return refused && turn.run == 0 ? 0 : result;                                /* run 0 accepted */
+    case 194: return refused && model_is_run(turn.run & MAX_RUN) ? 0 : result;             /* a run by its low bits */
+    case 195: return done && turn.run == MAX_RUN ? -3 : result;                            /* run 2^28 - 1 refused */
+    case 196: return done && turn.run == 1 ? -3 : result;                                  /* run 1 refused */
+    case 197: return result == -2 && is_linked(0) ? -3 : result;                           /* 3 before 2 */
+    case 198: return refused && areas[PATH].lent && turn.cause != 0 ? -turn.cause : result; /* 4 before 3 */
+    case 199: return writes_image(result, -3) ? 0 : result;                                /* an image of any run */
+    case 200: return writes_image(result, -2) && !is_run ? -3 : result;                    /* 3 before 2 of an image */
+    case 201: return writes_image(result, -3) && turn.first > MAX_NUMBER ? -9 : result;    /* 9 before 3 */
+    case 202: return begins(result, -1) && !is_run ? -3 : result;                          /* 3 before 1 */
+    case 203: case 230: return begins(result, -3) ? 0 : result;                            /* any run begins */
+    case 204: return begins(result, 0) && turn.run == MAX_RUN ? -3 : result;               /* the last run does not */
+    default: return result;
+    }
+}
+
+/* Faults about runs. */
+static int32_t break_runs(int32_t result)
+{
+    break_arrival_runs(result);
+    break_run_areas(result);
+    return break_main_run(break_numbers(break_run_word(break_answer(result))));
 }
 
 /* ---- a permission without a path */
@@ -334,7 +648,7 @@ static void break_areas(int32_t result)
     case 11: if (current == HEAD && result < 0) change(NUMBER_3, 0); break;        /* a number not written */
     case 12: if (current == MAKE_CHILD && result < -3) change(CHILD, 2); break;    /* a refused child with a switch */
     case 13: if (current == MAKE_CHILD && result < -3) change(CHILD, TABLE_BYTES); break; /* a byte behind a child's memory */
-    case 21: if (has_records()) change(RECORDS, 3); break;                         /* another kind or act in a head */
+    case 21: if (has_records()) change(RECORDS, 7); break;                         /* another kind or act in a head */
     case 22: if (has_records()) change(RECORDS, 4 * size_in(NUMBER_3) - 1); break; /* another last word */
     case 23: if (has_records()) change(RECORDS, 4 * size_in(NUMBER_3)); break;     /* a word behind the records */
     case 24: if (turn.linked != NULL && result < 0) change(RECORDS, 0); break;     /* a refusal writes a record */
@@ -349,7 +663,7 @@ static void break_areas(int32_t result)
     case 63: if (current == MAKE_CHILD && result < -3) change(CHILD, 1); break;    /* a refused child with an entry */
     case 64: if (has_records()) skip_number(); break;                              /* a number left out */
     case 65: if (has_records()) hide_records(); break;                             /* records not told */
-    case 66: if (has_records()) change(RECORDS, 0); break;                         /* another number */
+    case 66: if (has_records()) change(RECORDS, 4); break;                         /* another number */
     }
 }
 
@@ -360,7 +674,7 @@ static int32_t broken(int32_t result)
         return result;
     break_areas(result);
     break_standby(result);
-    result = break_unit(break_image(result));
+    result = break_unit(break_runs(break_image(result)));
     switch (fault) {
     case 14: return current == CHECK_PATH && result > 0 ? 0 : result;     /* a check that fails passes */
     case 15: return result == -8 ? 0 : result;                            /* a full table is no refusal */
@@ -378,7 +692,7 @@ static int32_t broken(int32_t result)
     case 50: return arrives(result, EARLY) && is_full_for_record() ? -8 : result;  /* 8 said to an early one */
     case 51: return arrives(result, REPEAT) && is_full_for_record() ? -8 : result; /* 8 said to a repeat */
     case 52: return arrives(result, -8) ? APPLIED : result;               /* a full table is no refusal */
-    case 53: return arrives(result, -1) && turn.holds ? REPEAT : result;  /* nor is n above h */
+    case 53: return arrives(result, -1) && is_above_h() ? REPEAT : result; /* nor is n above h */
     case 54: return arrives(result, -1) && is_malformed() ? -11 : result; /* 11 before 1 */
     case 55: return arrives(result, -11) && arriving_number() <= turn.had.last ? REPEAT : result; /* Repeat before 11 */
     case 56: return arrives(result, REPEAT) && looks_next() ? APPLIED : result; /* n by its low bits */
@@ -392,7 +706,8 @@ static int32_t broken(int32_t result)
 
 static int is_without_model(void)
 {
-    int is_one = (fault >= FIRST_WITHOUT_MODEL && fault <= LAST_WITHOUT_MODEL) || fault >= IMAGE_WITHOUT_MODEL;
+    int is_one = (fault >= FIRST_WITHOUT_MODEL && fault <= LAST_WITHOUT_MODEL)
+                 || (fault >= IMAGE_WITHOUT_MODEL && fault <= LAST_IMAGE_WITHOUT_MODEL) || fault >= RUN_WITHOUT_MODEL;
 
     return is_one && calls >= FIRST_BROKEN_CALL;
 }

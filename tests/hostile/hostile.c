@@ -22,7 +22,7 @@ enum { EXTRA_BYTES = 4096, SLOTS = 12, GREATEST_CAUSE = 13, GREATEST_STATE = 5, 
 
 enum {
     FRESH, INSERT, SET_SWITCHES, QUERY, QUERY_ALL, CHECK_ASKS, CHECK_PATH, CHECK_ALL_ASKS, CHECK_ALL, REQUEST_ASKS,
-    REQUEST_PATH, REQUEST_ALL_ASKS, REQUEST_ALL, REVOKE, REVOKE_ALL, MAKE_CHILD, LINKED_INSERT, LINKED_SWITCHES,
+    REQUEST_PATH, REQUEST_ALL_ASKS, REQUEST_ALL, REVOKE, REVOKE_ALL, MAKE_CHILD, BEGIN_RUN, LINKED_INSERT, LINKED_SWITCHES,
     LINKED_CHECK, LINKED_CHECK_ALL, LINKED_REQUEST, LINKED_REQUEST_ALL, LINKED_REVOKE, LINKED_REVOKE_ALL, LINKED_CHILD,
     ARRIVE, OWED, LINKED_IMAGE, ARRIVE_IMAGE, USED, HEAD, ENTRY, UNIT_CHECKED, UNIT_REQUESTED, UNIT_REVOKED, FUNCTIONS
 };
@@ -51,18 +51,19 @@ static const struct {
     [REVOKE] = {"revoke", CAUSE(1) | CAUSES(4, 7), 0, 5},
     [REVOKE_ALL] = {"revoke_all", CAUSE(1), 0, 5},
     [MAKE_CHILD] = {"child", CAUSE(1) | CAUSES(3, 8) | CAUSE(10), 0, 0},
+    [BEGIN_RUN] = {"begin_run", CAUSE(1) | CAUSE(3), 0, 0},
     [LINKED_INSERT] = {"linked_insert", CAUSES(1, 9), 0, 0},
     [LINKED_SWITCHES] = {"linked_switches", CAUSES(1, 3) | CAUSE(9), 0, 0},
     [LINKED_CHECK] = {"linked_check", CAUSES(1, 9), 0, 5},
     [LINKED_CHECK_ALL] = {"linked_check_all", CAUSES(1, 3) | CAUSE(9), 0, 5},
     [LINKED_REQUEST] = {"linked_request", CAUSES(1, 9), 0, 5},
     [LINKED_REQUEST_ALL] = {"linked_request_all", CAUSES(1, 3) | CAUSE(9), 0, 5},
-    [LINKED_REVOKE] = {"linked_revoke", CAUSES(1, 2) | CAUSES(4, 7) | CAUSE(9), 0, 5},
-    [LINKED_REVOKE_ALL] = {"linked_revoke_all", CAUSES(1, 2) | CAUSE(9), 0, 5},
+    [LINKED_REVOKE] = {"linked_revoke", CAUSES(1, 7) | CAUSE(9), 0, 5},
+    [LINKED_REVOKE_ALL] = {"linked_revoke_all", CAUSES(1, 3) | CAUSE(9), 0, 5},
     [LINKED_CHILD] = {"linked_child", CAUSES(1, 10), 0, 0},
     [ARRIVE] = {"arrive", CAUSE(1) | CAUSE(8) | CAUSE(11), APPLIED, EARLY},
     [OWED] = {"owed", CAUSE(1), 0, 0},
-    [LINKED_IMAGE] = {"linked_image", CAUSES(1, 2) | CAUSE(9), 0, 0},
+    [LINKED_IMAGE] = {"linked_image", CAUSES(1, 3) | CAUSE(9), 0, 0},
     [ARRIVE_IMAGE] = {"arrive_image", CAUSE(1) | CAUSE(13), REPEAT, TAKEN},
     [USED] = {"used", CAUSE(1), 4, TABLE_BYTES},
     [HEAD] = {"head", CAUSE(1), 0, 0},
@@ -117,10 +118,11 @@ static void watch_signals(void)
 
 /* ---- the tables, and the one that a call gets */
 
+/* Tables that are kept from call to call, a standby's, and that of a main whose run has just begun. */
 static struct slot {
     uint8_t bytes[TABLE_BYTES + EXTRA_BYTES];
     int style;
-} slots[SLOTS], standby_slot;
+} slots[SLOTS], standby_slot, begun_slot;
 
 static struct turn {
     struct slot *slot;
@@ -136,13 +138,15 @@ static struct turn {
     size_t text_space;
     struct link *linked; /* NULL where the call is a plain one */
     struct link link;    /* by the model */
-    uint64_t first;      /* the main's number before the call */
+    uint32_t run;        /* the main's */
+    uint64_t first;      /* its number before the call */
     uint64_t *number;
     uint32_t *records;
     size_t records_space;
     size_t *records_size;
     struct standby had, standby; /* before the arrival, and after it by the model */
     uint64_t *last, *highest;
+    uint32_t *own_run, *highest_run;
     const uint32_t *words;
     size_t words_size;
     size_t image_space; /* of an image that is written */
@@ -177,17 +181,30 @@ static uint64_t long_in(int area)
     return number;
 }
 
-/* The number in the first word of the record or image that is lent, or 0. */
+/* The run in the first word of the record or image that is lent, or 0. */
+static uint32_t arriving_run(void)
+{
+    return turn.words_size > 0 ? word_in(WORDS, 0) & MAX_RUN : 0;
+}
+
+/* The number in its second word, or 0. */
 static uint32_t arriving_number(void)
 {
-    return turn.words_size > 0 ? word_in(WORDS, 0) & 0xFFFFFF : 0;
+    return turn.words_size > 1 ? word_in(WORDS, 1) & MAX_NUMBER : 0;
+}
+
+/* The standby's numbers, as they are lent. */
+static struct standby standby_in(void)
+{
+    struct standby standby = {long_in(LAST), long_in(HIGHEST), number_in(OWN_RUN), number_in(HIGHEST_RUN)};
+    return standby;
 }
 
 /* Whether the table is too full for that record, if it were the next one. */
 static int is_full_for_record(void)
 {
     static struct table table;
-    struct standby standby = {arriving_number() - 1u, arriving_number()};
+    struct standby standby = {arriving_number() - 1u, arriving_number(), arriving_run(), arriving_run()};
 
     table = turn.table;
     return model_arrive(&table, &standby, turn.words, turn.words_size) == -8;
@@ -206,6 +223,14 @@ static void want_size(int area, size_t number)
 static void want_long(int area, uint64_t number)
 {
     memcpy(wanted(area), &number, sizeof number);
+}
+
+static void want_standby(const struct standby *standby)
+{
+    want_long(LAST, standby->last);
+    want_long(HIGHEST, standby->highest);
+    want_number(OWN_RUN, standby->run);
+    want_number(HIGHEST_RUN, standby->highest_run);
 }
 
 /* The memory must hold this table, and behind it what was there. */
@@ -294,9 +319,11 @@ static void hold_to_header(int32_t result)
         violation("leaves Granted");
 }
 
-/* What a linked call must leave, whatever the model: a number for each head among its words, one behind the other. */
+/* What a linked call must leave, whatever the model: a number for each head among its words, one behind the other, and its run
+ * before each head and nowhere else. */
 static void hold_to_numbers(int32_t result)
 {
+    uint32_t run = UINT32_C(8) << 28 | turn.run, before = 0;
     uint64_t number = turn.first, last = long_in(MAIN_NUMBER);
     size_t size = size_in(NUMBER_3);
 
@@ -304,10 +331,14 @@ static void hold_to_numbers(int32_t result)
         violation("result %d with records of %zu words", (int)result, size);
     for (size_t i = 0; i < size; i++) {
         uint32_t word = word_in(RECORDS, i);
-        if (word >> 28 == 1 && (word & 0xFFFFFF) != ++number)
-            violation("result %d with a record of number %u", (int)result, (unsigned)(word & 0xFFFFFF));
+        if (word >> 28 == 1 && (word & MAX_NUMBER) != ++number)
+            violation("result %d with a record of number %u", (int)result, (unsigned)(word & MAX_NUMBER));
+        if ((word >> 28 == 1) != (before == run))
+            violation("result %d for run %u, and word %zu of the records is %08x", (int)result, (unsigned)turn.run, i,
+                      (unsigned)word);
+        before = word;
     }
-    if (last != number)
+    if (last != number || before == run)
         violation("result %d with %zu words of records, and the main's number goes from %llu to %llu", (int)result, size,
                   (unsigned long long)turn.first, (unsigned long long)last);
 }
@@ -341,17 +372,56 @@ static int32_t settle(int32_t result, int32_t expected)
     return result;
 }
 
-/* Whether an arrival that is not refused may have this answer, by the number that it has. */
-static int may_say(int32_t answer, uint64_t number, uint64_t last)
+/* Whether an arrival that is not refused may have this answer, by its run and number. */
+static int may_say(int32_t answer)
 {
+    uint32_t run = arriving_run(), own = turn.had.run;
+    uint64_t number = arriving_number(), last = run > own ? 0 : turn.had.last;
     int is_image = current == ARRIVE_IMAGE;
 
+    if (run == 0 || (number == 0 && !is_image))
+        return 0;
     switch (answer) {
-    case APPLIED: return !is_image && number > last && number - last == 1;
-    case REPEAT: return number <= last && (is_image || number > 0);
-    case EARLY: return !is_image && number > last && number - last > 1;
-    default: return is_image && number > last;
+    case APPLIED: return !is_image && run >= own && number > last && number - last == 1;
+    case REPEAT: return run < own || (run == own && number <= last);
+    case EARLY: return !is_image && run >= own && number > last && number - last > 1;
+    default: return is_image && (run > own || (run == own && number > last));
     }
+}
+
+/* The standby's numbers after an arrival with this answer or refusal. A repeat has nothing that is higher. */
+static struct standby numbers_after(int32_t result)
+{
+    struct standby after = turn.had;
+    uint32_t run = arriving_run();
+    uint64_t number = arriving_number();
+
+    if (result < 0 || result == REPEAT)
+        return after;
+    if (run > after.highest_run || (run == after.highest_run && number > after.highest)) {
+        after.highest_run = run;
+        after.highest = number;
+    }
+    if (result != EARLY) {
+        after.run = run;
+        after.last = number;
+    }
+    return after;
+}
+
+static int same_numbers(const struct standby *a, const struct standby *b)
+{
+    return a->last == b->last && a->highest == b->highest && a->run == b->run && a->highest_run == b->highest_run;
+}
+
+enum { SAID_BYTES = 80 };
+
+/* A standby's numbers as text: n, h, the run and the highest one. */
+static const char *say(const struct standby *standby, char *text)
+{
+    snprintf(text, SAID_BYTES, "%llu, %llu, %lu, %lu", (unsigned long long)standby->last, (unsigned long long)standby->highest,
+             (unsigned long)standby->run, (unsigned long)standby->highest_run);
+    return text;
 }
 
 /* Whether the memory has the count, switches and marks that an image says. */
@@ -359,24 +429,20 @@ static int has_head_of_image(void)
 {
     const uint8_t *memory = areas[MEMORY].start;
 
-    return word_in(WORDS, 1) == (UINT32_C(6) << 28 | (memory[0] * 256u + memory[1]) << 8 | (uint32_t)memory[3] << 5 | memory[2]);
+    return word_in(WORDS, 2) == (UINT32_C(6) << 28 | (memory[0] * 256u + memory[1]) << 8 | (uint32_t)memory[3] << 5 | memory[2]);
 }
 
-/* What an arrival must leave, whatever the model: n and h by its answer and the number in its first word, and the memory as it
- * was but for Applied and Taken. */
+/* What an arrival must leave, whatever the model: its numbers by its answer and its first two words, and the memory as it was
+ * but for Applied and Taken. */
 static void hold_to_answer(int32_t result)
 {
-    uint64_t number = arriving_number(), last = turn.had.last, highest = turn.had.highest;
+    struct standby found = standby_in(), due = numbers_after(result);
+    char had[SAID_BYTES], has[SAID_BYTES];
     int is_done = result == APPLIED || result == TAKEN;
 
-    if (is_done)
-        last = number;
-    if ((is_done || result == EARLY) && highest < number)
-        highest = number;
-    if ((result >= 0 && !may_say(result, number, turn.had.last)) || long_in(LAST) != last || long_in(HIGHEST) != highest)
-        violation("result %d for number %llu, and the standby's numbers go from %llu and %llu to %llu and %llu", (int)result,
-                  (unsigned long long)number, (unsigned long long)turn.had.last, (unsigned long long)turn.had.highest,
-                  (unsigned long long)long_in(LAST), (unsigned long long)long_in(HIGHEST));
+    if ((result >= 0 && !may_say(result)) || !same_numbers(&found, &due))
+        violation("result %d for number %u of run %u, and the standby's numbers go from %s to %s", (int)result,
+                  (unsigned)arriving_number(), (unsigned)arriving_run(), say(&turn.had, had), say(&found, has));
     if (!is_done && memcmp(areas[MEMORY].start, standby_slot.bytes, turn.memory_size) != 0)
         violation("result %d, and the memory has changed", (int)result);
     if (result == TAKEN && !has_head_of_image())
@@ -537,42 +603,64 @@ static size_t record_space(size_t items)
     }
 }
 
-/* Half of the calls are linked: these get a number and a record space too. */
-static void lend_link(size_t items)
+static void lend_main_number(uint64_t number)
 {
-    if (one_in(2))
-        return;
-    copy_memory();
-    turn.linked = &turn.link;
-    turn.link.number = turn.first = make_main_number();
-    turn.link.size = 0;
+    turn.first = number;
     turn.number = lend(MAIN_NUMBER, &turn.first, sizeof turn.first);
-    turn.records_space = record_space(items);
+}
+
+/* The call is linked: it gets this run, a number and a record space too. */
+static void lend_main(uint32_t run, uint64_t number, size_t space)
+{
+    copy_memory();
+    lend_main_number(number);
+    turn.linked = &turn.link;
+    turn.link.run = turn.run = run;
+    turn.link.number = number;
+    turn.link.size = 0;
+    turn.records_space = space;
     turn.records = lend(RECORDS, NULL, turn.records_space * sizeof turn.records[0]);
     turn.records_size = lend(NUMBER_3, NULL, sizeof *turn.records_size);
 }
 
-static int lacks_record_space(size_t items)
+/* Half of the calls are linked. */
+static void lend_link(size_t items)
 {
-    return turn.linked != NULL && turn.records_space < least_record_space(items);
+    if (!one_in(2))
+        lend_main(make_main_run(), make_main_number(), record_space(items));
+}
+
+/* Refusals 2 and 3 of a linked call, or 0. */
+static int32_t refused_link(size_t items)
+{
+    if (turn.linked == NULL)
+        return 0;
+    if (turn.records_space < least_record_space(items))
+        return -2;
+    return model_is_run(turn.run) ? 0 : -3;
 }
 
 /* ---- a table: fresh, insert, switches, used, head, entry */
 
+/* The memory must hold a fresh table after a call that is not refused. */
+static void want_fresh(int32_t expected)
+{
+    turn.holds = expected == 0;
+    if (!turn.holds)
+        return;
+    memset(&turn.after, 0, sizeof turn.after);
+    want_table(MEMORY, &turn.after);
+}
+
 static void run_fresh(void)
 {
-    static const uint8_t fresh[4] = {0};
-    int32_t expected = -1;
+    int32_t expected;
 
-    turn.holds = 0;
     turn.slot = &slots[below(SLOTS)];
     turn.memory_size = table_memory_size();
     turn.memory = lend(MEMORY, NULL, turn.memory_size);
-    if (turn.memory_size >= TABLE_BYTES) {
-        memcpy(wanted(MEMORY), fresh, sizeof fresh);
-        turn.holds = 1;
-        expected = 0;
-    }
+    expected = turn.memory_size < TABLE_BYTES ? -1 : 0;
+    want_fresh(expected);
     next(FRESH);
     (void)settle(permissions_fresh(turn.memory, turn.memory_size), expected);
     turn.slot->style = (int)below(STYLES);
@@ -581,10 +669,12 @@ static void run_fresh(void)
 
 static int32_t expected_insert(uint32_t kind)
 {
+    int32_t refused = refused_link(1);
+
     if (!turn.holds)
         return -1;
-    if (lacks_record_space(1))
-        return -2;
+    if (refused != 0)
+        return refused;
     if (kind >= KINDS)
         return -3;
     if (turn.cause != 0)
@@ -596,22 +686,18 @@ static int32_t call_insert(uint32_t kind)
 {
     next(turn.linked != NULL ? LINKED_INSERT : INSERT);
     if (turn.linked != NULL)
-        return permissions_linked_insert(turn.memory, turn.memory_size, turn.number, kind, turn.given.start, turn.given.size,
-                                         turn.directory.start, turn.directory.size, turn.records, turn.records_space,
-                                         turn.records_size);
+        return permissions_linked_insert(turn.memory, turn.memory_size, turn.run, turn.number, kind, turn.given.start,
+                                         turn.given.size, turn.directory.start, turn.directory.size, turn.records,
+                                         turn.records_space, turn.records_size);
     return permissions_insert(turn.memory, turn.memory_size, kind, turn.given.start, turn.given.size, turn.directory.start,
                               turn.directory.size);
 }
 
-static void run_insert(void)
+/* Inserts the lent path into the lent memory. */
+static void do_insert(uint32_t kind)
 {
-    uint32_t kind = make_number(KINDS);
-    int32_t expected;
+    int32_t expected = expected_insert(kind);
 
-    lend_memory();
-    lend_path();
-    lend_link(1);
-    expected = expected_insert(kind);
     if (expected == 0)
         want_table(MEMORY, &turn.after);
     want_sent();
@@ -619,12 +705,22 @@ static void run_insert(void)
     keep_table();
 }
 
+static void run_insert(void)
+{
+    lend_memory();
+    lend_path();
+    lend_link(1);
+    do_insert(make_number(KINDS));
+}
+
 static int32_t expected_switches(uint32_t switches)
 {
+    int32_t refused = refused_link(1);
+
     if (!turn.holds)
         return -1;
-    if (lacks_record_space(1))
-        return -2;
+    if (refused != 0)
+        return refused;
     if (switches >= SWITCHES)
         return -3;
     return model_switches(&turn.after, switches, turn.linked);
@@ -634,24 +730,28 @@ static int32_t call_switches(uint32_t switches)
 {
     next(turn.linked != NULL ? LINKED_SWITCHES : SET_SWITCHES);
     if (turn.linked != NULL)
-        return permissions_linked_switches(turn.memory, turn.memory_size, turn.number, switches, turn.records,
+        return permissions_linked_switches(turn.memory, turn.memory_size, turn.run, turn.number, switches, turn.records,
                                            turn.records_space, turn.records_size);
     return permissions_switches(turn.memory, turn.memory_size, switches);
 }
 
-static void run_switches(void)
+/* Sets the switches in the lent memory. */
+static void do_switches(uint32_t switches)
 {
-    uint32_t switches = one_in(3) ? make_number(SWITCHES) : SWITCH_PROMPT | below(2); /* 16 lets calls ask */
-    int32_t expected;
+    int32_t expected = expected_switches(switches);
 
-    lend_memory();
-    lend_link(1);
-    expected = expected_switches(switches);
     if (expected == 0)
         want_table(MEMORY, &turn.after);
     want_sent();
     (void)settle(call_switches(switches), expected);
     keep_table();
+}
+
+static void run_switches(void)
+{
+    lend_memory();
+    lend_link(1);
+    do_switches(one_in(3) ? make_number(SWITCHES) : SWITCH_PROMPT | below(2)); /* 16 lets calls ask */
 }
 
 static void run_used(void)
@@ -737,10 +837,12 @@ static void run_query(void)
 
 static int32_t expected_revoke(int with_path)
 {
+    int32_t refused = refused_link(1);
+
     if (!turn.holds)
         return -1;
-    if (lacks_record_space(1))
-        return -2;
+    if (refused != 0)
+        return refused;
     if (with_path && turn.cause != 0)
         return -turn.cause;
     return model_revoke(&turn.after, with_path ? &turn.path : NULL, turn.linked);
@@ -756,30 +858,36 @@ static int32_t call_revoke(int with_path)
     case REVOKE_ALL:
         return permissions_revoke_all(turn.memory, turn.memory_size);
     case LINKED_REVOKE:
-        return permissions_linked_revoke(turn.memory, turn.memory_size, turn.number, turn.given.start, turn.given.size,
-                                         turn.directory.start, turn.directory.size, turn.records, turn.records_space,
-                                         turn.records_size);
+        return permissions_linked_revoke(turn.memory, turn.memory_size, turn.run, turn.number, turn.given.start,
+                                         turn.given.size, turn.directory.start, turn.directory.size, turn.records,
+                                         turn.records_space, turn.records_size);
     default:
-        return permissions_linked_revoke_all(turn.memory, turn.memory_size, turn.number, turn.records, turn.records_space,
-                                             turn.records_size);
+        return permissions_linked_revoke_all(turn.memory, turn.memory_size, turn.run, turn.number, turn.records,
+                                             turn.records_space, turn.records_size);
     }
 }
 
-static void run_revoke(void)
+/* Revokes in the lent memory, the lent path or all. */
+static void do_revoke(int with_path)
 {
-    int with_path = !one_in(5);
-    int32_t expected;
+    int32_t expected = expected_revoke(with_path);
 
-    lend_memory();
-    if (with_path)
-        lend_path();
-    lend_link(1);
-    expected = expected_revoke(with_path);
     if (expected >= 0)
         want_table(MEMORY, &turn.after);
     want_sent();
     (void)settle(call_revoke(with_path), expected);
     keep_table();
+}
+
+static void run_revoke(void)
+{
+    int with_path = !one_in(5);
+
+    lend_memory();
+    if (with_path)
+        lend_path();
+    lend_link(1);
+    do_revoke(with_path);
 }
 
 /* ---- check and request */
@@ -799,10 +907,14 @@ struct question {
 /* Refusals 1, 2 and 4 to 7; 3 comes between. */
 static int32_t refused_by_arguments(const struct asking *asking)
 {
+    int32_t refused = refused_link(1);
+
     if (!turn.holds)
         return -1;
-    if (turn.text_space < TEXT_BYTES || lacks_record_space(1))
+    if (turn.text_space < TEXT_BYTES)
         return -2;
+    if (refused != 0)
+        return refused;
     if (asking->answer >= ANSWERS)
         return -3;
     return asking->with_path ? -turn.cause : 0;
@@ -894,19 +1006,20 @@ static int32_t call_linked_ask(const struct asking *asking, uint32_t *asked, siz
     next((asking->call == CHECK ? LINKED_CHECK : LINKED_REQUEST) + !asking->with_path);
     switch (current) {
     case LINKED_CHECK:
-        return permissions_linked_check(memory, size, turn.number, path, path_size, directory, directory_size,
+        return permissions_linked_check(memory, size, turn.run, turn.number, path, path_size, directory, directory_size,
                                         asking->answer, turn.text, turn.text_space, turn.records, turn.records_space, asked,
                                         text_size, turn.records_size);
     case LINKED_REQUEST:
-        return permissions_linked_request(memory, size, turn.number, path, path_size, directory, directory_size,
+        return permissions_linked_request(memory, size, turn.run, turn.number, path, path_size, directory, directory_size,
                                           asking->answer, turn.text, turn.text_space, turn.records, turn.records_space,
                                           asked, text_size, turn.records_size);
     case LINKED_CHECK_ALL:
-        return permissions_linked_check_all(memory, size, turn.number, asking->answer, turn.text, turn.text_space,
+        return permissions_linked_check_all(memory, size, turn.run, turn.number, asking->answer, turn.text, turn.text_space,
                                             turn.records, turn.records_space, asked, text_size, turn.records_size);
     default:
-        return permissions_linked_request_all(memory, size, turn.number, asking->answer, turn.text, turn.text_space,
-                                              turn.records, turn.records_space, asked, text_size, turn.records_size);
+        return permissions_linked_request_all(memory, size, turn.run, turn.number, asking->answer, turn.text,
+                                              turn.text_space, turn.records, turn.records_space, asked, text_size,
+                                              turn.records_size);
     }
 }
 
@@ -1030,11 +1143,11 @@ static void lend_items(struct child_call *call)
 
 static int32_t refused_child_arguments(const struct child_call *call, size_t child_size)
 {
+    int32_t refused = refused_link(call->ends_count);
+
     if (!turn.holds || child_size < TABLE_BYTES)
         return -1;
-    if (lacks_record_space(call->ends_count))
-        return -2;
-    return model_child_arguments(call);
+    return refused != 0 ? refused : model_child_arguments(call);
 }
 
 /* What the call must leave in both memories; its result. After 4 and on the child is fresh, and the parent keeps what
@@ -1065,7 +1178,7 @@ static int32_t call_child(const struct child_call *call, void *child, size_t chi
 {
     next(turn.linked != NULL ? LINKED_CHILD : MAKE_CHILD);
     if (turn.linked != NULL)
-        return permissions_linked_child(turn.memory, turn.memory_size, turn.number, child, child_size, call->code,
+        return permissions_linked_child(turn.memory, turn.memory_size, turn.run, turn.number, child, child_size, call->code,
                                         call->items.start, call->items.size, call->ends, call->ends_count, call->answers,
                                         call->answers_count, call->directory.start, call->directory.size, turn.records,
                                         turn.records_space, asked, turn.records_size);
@@ -1108,9 +1221,9 @@ static struct sent_record {
     uint32_t words[RECORD_WORDS];
 } sent_records[SENT_RECORDS];
 
-/* What the last linked call sent, record after record, and the main's table after it. */
+/* What a main has sent, record after record, and its table after that. */
 static struct sent {
-    size_t count, starts[MAX_ITEMS + 1];
+    size_t count, starts[MAX_ITEMS + 1]; /* behind the last one, where the next would begin */
     uint32_t words[MAX_ITEMS * RECORD_WORDS];
     uint8_t table[TABLE_BYTES];
 } sent;
@@ -1120,6 +1233,8 @@ static void lend_standby(const struct standby *standby)
     turn.had = turn.standby = *standby;
     turn.last = lend(LAST, &standby->last, sizeof standby->last);
     turn.highest = lend(HIGHEST, &standby->highest, sizeof standby->highest);
+    turn.own_run = lend(OWN_RUN, &standby->run, sizeof standby->run);
+    turn.highest_run = lend(HIGHEST_RUN, &standby->highest_run, sizeof standby->highest_run);
 }
 
 static void lend_words(const uint32_t *words, size_t size)
@@ -1132,12 +1247,45 @@ static int32_t expected_arrival(void)
 {
     int32_t expected;
 
-    if (!turn.holds || turn.standby.last > turn.standby.highest)
+    if (!turn.holds || !model_is_standby(&turn.standby))
         return -1;
     expected = model_arrive(&turn.after, &turn.standby, turn.words, turn.words_size);
     if (expected == REPEAT || expected == EARLY)
         full_elsewhere += (unsigned long)is_full_for_record();
     return expected;
+}
+
+/* The lent numbers as the header's struct, and back. */
+static void put_together(struct permissions_standby *standby)
+{
+    standby->last = *turn.last;
+    standby->highest = *turn.highest;
+    standby->run = *turn.own_run;
+    standby->highest_run = *turn.highest_run;
+}
+
+static void take_apart(const struct permissions_standby *standby)
+{
+    *turn.last = standby->last;
+    *turn.highest = standby->highest;
+    *turn.own_run = standby->run;
+    *turn.highest_run = standby->highest_run;
+}
+
+/* Lends the numbers one by one, at times all together. */
+static int32_t call_arrive(void)
+{
+    struct permissions_standby standby;
+    int32_t result;
+
+    next(ARRIVE);
+    if (!one_in(4))
+        return permissions_arrive(turn.memory, turn.memory_size, turn.last, turn.highest, turn.own_run, turn.highest_run,
+                                  turn.words, turn.words_size);
+    put_together(&standby);
+    result = permissions_standby_arrive(turn.memory, turn.memory_size, &standby, turn.words, turn.words_size);
+    take_apart(&standby);
+    return result;
 }
 
 /* The lent words arrive at the lent standby. */
@@ -1147,18 +1295,15 @@ static int32_t arrive(void)
 
     if (expected == APPLIED)
         want_table(MEMORY, &turn.after);
-    want_long(LAST, turn.standby.last);
-    want_long(HIGHEST, turn.standby.highest);
+    want_standby(&turn.standby);
     copy_memory();
-    next(ARRIVE);
-    result = settle(permissions_arrive(turn.memory, turn.memory_size, turn.last, turn.highest, turn.words, turn.words_size),
-                    expected);
+    result = settle(call_arrive(), expected);
     hold_to_answer(result);
     keep_table();
     return result;
 }
 
-/* A record that a linked call sent or the model writes, as it is or damaged, or words that are mostly none. */
+/* A record that a linked call sent or the model writes, as it is or damaged, an image, or words that are mostly none. */
 static size_t make_arriving(uint32_t *words)
 {
     const struct sent_record *record = &sent_records[below(SENT_RECORDS)];
@@ -1167,11 +1312,13 @@ static size_t make_arriving(uint32_t *words)
 
     if (one_in(16))
         return make_words(words);
+    if (one_in(64) && turn.holds)
+        return model_image(&turn.table, make_run(), make_image_number(), words);
     if (size > 0 && one_in(3)) {
         memcpy(words, record->words, size * sizeof words[0]);
     } else {
         path_size = some_path(path);
-        size = make_record(words, make_record_number(), path, path_size);
+        size = make_record(words, make_run(), make_record_number(), path, path_size);
     }
     return one_in(3) ? make_record_damage(words, size) : size;
 }
@@ -1180,29 +1327,36 @@ static void run_arrive(void)
 {
     static uint32_t words[MOST_WORDS];
     struct standby standby;
-    uint32_t number;
+    uint32_t run, number;
 
     lend_memory();
     lend_words(words, make_arriving(words));
+    run = arriving_run();
     number = arriving_number();
-    make_standby(&standby, number > 0 ? number : make_record_number());
+    make_standby(&standby, run > 0 ? run : make_run(), number > 0 ? number : make_record_number());
     lend_standby(&standby);
     (void)arrive();
 }
 
-/* Divides what a linked call sent at its heads, and keeps one record of it. */
+static void forget_sent(void)
+{
+    sent.count = sent.starts[0] = 0;
+}
+
+/* Adds what a linked call sent, divided at its runs, and keeps one record of all. */
 static void take_sent(void)
 {
     struct sent_record *record = &sent_records[below(SENT_RECORDS)];
-    size_t size = size_in(NUMBER_3), some;
+    size_t from = sent.starts[sent.count], size = size_in(NUMBER_3), some;
 
     memcpy(sent.table, areas[MEMORY].start, sizeof sent.table);
-    memcpy(sent.words, areas[RECORDS].start, size * sizeof sent.words[0]);
-    sent.count = 0;
-    for (size_t i = 0; i < size; i++)
-        if (sent.words[i] >> 28 == 1)
+    memcpy(sent.words + from, areas[RECORDS].start, size * sizeof sent.words[0]);
+    for (size_t i = from; i < from + size; i++)
+        if (sent.words[i] >> 28 == 8)
             sent.starts[sent.count++] = i;
-    sent.starts[sent.count] = size;
+    sent.starts[sent.count] = from + size;
+    if (sent.count == 0)
+        return;
     some = below((uint32_t)sent.count);
     record->size = sent.starts[some + 1] - sent.starts[some];
     memcpy(record->words, sent.words + sent.starts[some], record->size * sizeof record->words[0]);
@@ -1218,13 +1372,6 @@ static void lend_standby_memory(void)
     read_memory();
 }
 
-/* What the arrival made of the standby's numbers. */
-static void take_numbers(struct standby *standby)
-{
-    standby->last = long_in(LAST);
-    standby->highest = long_in(HIGHEST);
-}
-
 /* A record of those arrives at a standby that has the main's table after as many of them as it has applied. */
 static int32_t arrive_sent(size_t some, struct standby *standby)
 {
@@ -1234,7 +1381,7 @@ static int32_t arrive_sent(size_t some, struct standby *standby)
     lend_standby(standby);
     lend_words(sent.words + sent.starts[some], sent.starts[some + 1] - sent.starts[some]);
     result = arrive();
-    take_numbers(standby);
+    *standby = standby_in();
     return result;
 }
 
@@ -1247,40 +1394,51 @@ static struct sent_image {
     uint8_t table[TABLE_BYTES];
 } sent_image;
 
+/* Refusals 2, 3 and 9 of an image of so many words, or 0. */
+static int32_t refused_image(size_t size)
+{
+    if (turn.image_space < size)
+        return -2;
+    if (!model_is_run(turn.run))
+        return -3;
+    return turn.first > MAX_NUMBER ? -9 : 0;
+}
+
 /* What the writing of an image must leave, whatever the model. */
-static void hold_to_image(int32_t result, uint64_t number)
+static void hold_to_image(int32_t result)
 {
     size_t size = size_in(NUMBER);
-    int as_said = size >= 2 && size <= IMAGE_WORDS && (size > turn.image_space) == (result == -2);
+    int as_said = size >= 3 && size <= IMAGE_WORDS && result == refused_image(size);
 
     if (result == -1)
         as_said = size == 0;
-    else if (result != -2)
-        as_said = as_said && (number > MAX_NUMBER) == (result == -9);
     if (!as_said)
-        violation("result %d with an image of %zu words and number %llu, in a space of %zu", (int)result, size,
-                  (unsigned long long)number, turn.image_space);
-    if (result == 0 && word_in(IMAGE, 0) != (UINT32_C(5) << 28 | (uint32_t)number))
-        violation("an image with another number");
+        violation("result %d with an image of %zu words, run %u and number %llu, in a space of %zu", (int)result, size,
+                  (unsigned)turn.run, (unsigned long long)turn.first, turn.image_space);
+    if (result == 0 && (word_in(IMAGE, 0) != (UINT32_C(8) << 28 | turn.run)
+                        || word_in(IMAGE, 1) != (UINT32_C(5) << 28 | (uint32_t)turn.first)))
+        violation("an image with another run or number");
 }
 
-/* Writes the image of the lent memory with this number, into a space of so many words. */
-static int32_t write_image(uint64_t number, size_t space)
+/* Writes the image of the lent memory with this run and number, into a space of so many words. */
+static int32_t write_image(uint32_t run, uint64_t number, size_t space)
 {
     static uint32_t words[IMAGE_WORDS];
-    size_t size = turn.holds ? model_image(&turn.table, (uint32_t)number, words) : 0;
+    size_t size = turn.holds ? model_image(&turn.table, run, (uint32_t)number, words) : 0;
     uint32_t *image = lend(IMAGE, NULL, space * sizeof *image);
     size_t *image_size = lend(NUMBER, NULL, sizeof *image_size);
-    int32_t expected = !turn.holds ? -1 : space < size ? -2 : number > MAX_NUMBER ? -9 : 0, result;
+    int32_t expected, result;
 
+    turn.image_space = space;
+    turn.run = run;
+    turn.first = number;
+    expected = turn.holds ? refused_image(size) : -1;
     if (expected == 0)
         memcpy(wanted(IMAGE), words, size * sizeof words[0]);
     want_size(NUMBER, size);
-    turn.image_space = space;
-    turn.first = number;
     next(LINKED_IMAGE);
-    result = settle(permissions_linked_image(turn.memory, turn.memory_size, number, image, space, image_size), expected);
-    hold_to_image(result, number);
+    result = settle(permissions_linked_image(turn.memory, turn.memory_size, run, number, image, space, image_size), expected);
+    hold_to_image(result);
     return result;
 }
 
@@ -1289,7 +1447,7 @@ static size_t due_words(void)
 {
     static uint32_t words[IMAGE_WORDS];
 
-    return turn.holds ? model_image(&turn.table, 0, words) : 1 + below(IMAGE_WORDS);
+    return turn.holds ? model_image(&turn.table, 1, 0, words) : 1 + below(IMAGE_WORDS);
 }
 
 /* As many words as are due, or some other number. */
@@ -1307,24 +1465,36 @@ static size_t image_space(size_t due)
     }
 }
 
+/* Lends the numbers one by one, at times all together. */
+static int32_t call_arrive_image(void)
+{
+    struct permissions_standby standby;
+    int32_t result;
+
+    next(ARRIVE_IMAGE);
+    if (!one_in(4))
+        return permissions_arrive_image(turn.memory, turn.memory_size, turn.last, turn.highest, turn.own_run,
+                                        turn.highest_run, turn.words, turn.words_size);
+    put_together(&standby);
+    result = permissions_standby_arrive_image(turn.memory, turn.memory_size, &standby, turn.words, turn.words_size);
+    take_apart(&standby);
+    return result;
+}
+
 /* The lent words, an image or none, arrive at the lent standby. */
 static int32_t arrive_image(void)
 {
     int32_t expected = -1, result;
 
-    if (turn.holds && turn.standby.last <= turn.standby.highest)
+    if (turn.holds && model_is_standby(&turn.standby))
         expected = model_arrive_image(&turn.after, &turn.standby, turn.words, turn.words_size);
     if (expected == TAKEN)
         want_table(MEMORY, &turn.after);
     if (expected == -13)
         images_wrong[model_wrong_image(turn.words, turn.words_size)]++;
-    want_long(LAST, turn.standby.last);
-    want_long(HIGHEST, turn.standby.highest);
+    want_standby(&turn.standby);
     copy_memory();
-    next(ARRIVE_IMAGE);
-    result = settle(permissions_arrive_image(turn.memory, turn.memory_size, turn.last, turn.highest, turn.words,
-                                             turn.words_size),
-                    expected);
+    result = settle(call_arrive_image(), expected);
     hold_to_answer(result);
     keep_table();
     return result;
@@ -1335,7 +1505,6 @@ static int32_t arrive_image(void)
 static void take_image(struct standby *standby)
 {
     static struct table table;
-    uint32_t number = word_in(IMAGE, 0) & MAX_NUMBER;
 
     sent_image.size = size_in(NUMBER);
     memcpy(sent_image.words, areas[IMAGE].start, sent_image.size * sizeof sent_image.words[0]);
@@ -1343,12 +1512,11 @@ static void take_image(struct standby *standby)
     memcpy(standby_slot.bytes, slots[below(SLOTS)].bytes, TABLE_BYTES);
     lend_standby_memory();
     lend_words(sent_image.words, sent_image.size);
-    standby->last = below(number);
-    standby->highest = standby->last + (one_in(2) ? 0 : below(MAX_NUMBER));
+    make_behind_standby(standby, arriving_run(), arriving_number());
     lend_standby(standby);
     if (arrive_image() != TAKEN)
         violation("an image as a main wrote it is not taken");
-    take_numbers(standby);
+    *standby = standby_in();
     if (!model_reads(sent_image.table, sizeof sent_image.table, &table)
         || memcmp(sent_image.table, standby_slot.bytes, model_used(&table)) != 0)
         violation("the standby has another table than its main");
@@ -1358,10 +1526,8 @@ static void take_image(struct standby *standby)
 /* The main's table from before the last linked call, which is still kept, goes to another standby by an image. */
 static void join(struct standby *standby)
 {
-    uint64_t number = turn.first;
-
     lend_standby_memory();
-    if (write_image(number, due_words()) != 0)
+    if (write_image(turn.run, turn.first, due_words()) != 0)
         violation("a main's table has no image");
     take_image(standby);
 }
@@ -1375,7 +1541,7 @@ static void take_again(const struct standby *standby)
     if (arrive_image() != REPEAT)
         violation("an image is taken twice");
     lend_standby_memory();
-    if (write_image(standby->last, due_words()) != 0 || size_in(NUMBER) != sent_image.size
+    if (write_image(standby->run, standby->last, due_words()) != 0 || size_in(NUMBER) != sent_image.size
         || memcmp(areas[IMAGE].start, sent_image.words, sent_image.size * sizeof sent_image.words[0]) != 0)
         violation("the standby has another image than its main");
 }
@@ -1383,6 +1549,7 @@ static void take_again(const struct standby *standby)
 /* Writes an image, at times after a look at its size; what is written is taken. */
 static void run_image(void)
 {
+    uint32_t run = make_main_run();
     uint64_t number = one_in(8) ? below(3) : make_main_number();
     size_t due, said = 0;
     struct standby standby;
@@ -1390,10 +1557,10 @@ static void run_image(void)
     lend_memory();
     due = due_words();
     if (one_in(3)) {
-        (void)write_image(number, 0);
+        (void)write_image(run, number, 0);
         said = size_in(NUMBER);
     }
-    if (write_image(number, image_space(due)) != 0 || number == 0) {
+    if (write_image(run, number, image_space(due)) != 0) {
         keep_table();
         return;
     }
@@ -1405,7 +1572,7 @@ static void run_image(void)
         take_again(&standby);
 }
 
-/* The image of a table, as it is or damaged, or words that are mostly none. */
+/* The image of a table, as it is or damaged, a record, or words that are mostly none. */
 static size_t make_arriving_image(uint32_t *words)
 {
     static struct table table;
@@ -1413,13 +1580,15 @@ static size_t make_arriving_image(uint32_t *words)
 
     if (one_in(16))
         return make_image_words(words);
+    if (one_in(64))
+        return make_record(words, make_run(), make_record_number(), (const uint8_t *)"/a", 2);
     if (size > 0 && one_in(3)) {
         memcpy(words, sent_image.words, size * sizeof words[0]);
     } else if (one_in(2)) {
         (void)model_reads(slots[below(SLOTS)].bytes, TABLE_BYTES, &table);
-        size = model_image(&table, make_image_number(), words);
+        size = model_image(&table, make_run(), make_image_number(), words);
     } else {
-        size = make_image(words, make_image_number(), turn.slot->style);
+        size = make_image(words, make_run(), make_image_number(), turn.slot->style);
     }
     return one_in(2) ? make_image_damage(words, size) : size;
 }
@@ -1427,36 +1596,30 @@ static size_t make_arriving_image(uint32_t *words)
 static void run_arrive_image(void)
 {
     static uint32_t words[MOST_WORDS];
-    struct standby standby = {0, below(3)};
-    uint32_t number;
+    struct standby standby;
+    uint32_t run;
 
     lend_memory();
     lend_words(words, make_arriving_image(words));
-    number = arriving_number();
-    if (number > 0 || one_in(2))
-        make_standby(&standby, number > 0 ? number : make_record_number());
+    run = arriving_run();
+    make_standby(&standby, run > 0 ? run : make_run(), arriving_number());
     lend_standby(&standby);
     (void)arrive_image();
 }
 
-/* ---- a main followed, and what is owed */
+/* ---- a main followed */
 
-/* All that the last linked call sent arrives, some of it early or again, at a standby with the main's table from before the
- * call, at times by an image: then it has the main's table, whatever the model. */
-static void follow_main(void)
+/* All that a main sent arrives, some of it early or again, at a standby that has what came before, or is of a lower run where
+ * nothing did: then that has the main's table, whatever the model. */
+static void follow_sent(struct standby *standby)
 {
     static struct table table;
-    struct standby standby = {turn.first, turn.first};
     size_t applied = 0;
 
-    take_sent();
-    turn.linked = NULL;
-    if (turn.first > 0 && one_in(4) && is_room(2))
-        join(&standby);
     while (applied < sent.count && calls < call_limit) {
         size_t some = one_in(4) ? below((uint32_t)sent.count) : applied;
         int32_t due = some < applied ? REPEAT : some == applied ? APPLIED : EARLY;
-        int32_t result = arrive_sent(some, &standby);
+        int32_t result = arrive_sent(some, standby);
         if (result != due)
             violation("result %d for record %zu of those that a main sent, after %zu", (int)result, some + 1, applied);
         applied += some == applied;
@@ -1469,26 +1632,137 @@ static void follow_main(void)
     mains_followed++;
 }
 
-/* What is owed, whatever the model. */
-static void hold_to_owed(void)
+/* A standby with the main's table from before the last linked call, at times by an image, follows; at times it has met a higher
+ * run, which makes no difference. */
+static void follow_main(void)
 {
-    uint64_t owed = long_in(NUMBER), gap = turn.had.last < turn.had.highest ? turn.had.highest - turn.had.last : 0;
+    struct standby standby = {turn.first, turn.first, turn.run, turn.run};
 
-    if (owed != gap)
-        violation("owed %llu, not %llu", (unsigned long long)owed, (unsigned long long)gap);
+    forget_sent();
+    take_sent();
+    turn.linked = NULL;
+    if (one_in(4)) {
+        standby.highest_run += 1 + below(3);
+        standby.highest = make_main_number();
+    }
+    if (one_in(4) && is_room(2))
+        join(&standby);
+    follow_sent(&standby);
+}
+
+/* ---- a run begins */
+
+/* What the beginning of a run must leave, whatever the model. */
+static void hold_to_begun(int32_t result)
+{
+    static const uint8_t fresh[4] = {0};
+
+    if (long_in(MAIN_NUMBER) != (result == 0 ? 0 : turn.first))
+        violation("result %d, and the main's number goes from %llu to %llu", (int)result, (unsigned long long)turn.first,
+                  (unsigned long long)long_in(MAIN_NUMBER));
+    if (result == 0 && memcmp(areas[MEMORY].start, fresh, sizeof fresh) != 0)
+        violation("a run begins with a table that is not fresh");
+}
+
+/* Begins a run in any memory, with whatever it holds. */
+static int32_t begin_run(uint32_t run)
+{
+    int32_t expected, result;
+
+    turn.slot = &begun_slot;
+    turn.memory_size = table_memory_size();
+    turn.memory = lend(MEMORY, one_in(2) ? slots[below(SLOTS)].bytes : NULL, turn.memory_size);
+    if (turn.memory_size < TABLE_BYTES && one_in(2))
+        run = MAX_RUN + 1; /* two things wrong */
+    turn.run = run;
+    lend_main_number(one_in(4) ? below(3) : make_main_number());
+    expected = turn.memory_size < TABLE_BYTES ? -1 : model_is_run(run) ? 0 : -3;
+    want_fresh(expected);
+    if (expected == 0)
+        want_long(MAIN_NUMBER, 0);
+    next(BEGIN_RUN);
+    result = settle(permissions_begin_run(turn.memory, turn.memory_size, run, turn.number), expected);
+    hold_to_begun(result);
+    keep_table();
+    return result;
+}
+
+/* A linked call on the table of the run that has begun; its number afterwards. */
+static uint64_t make_change(uint32_t run, uint64_t number)
+{
+    lend_none();
+    turn.memory_size = TABLE_BYTES;
+    turn.memory = lend(MEMORY, begun_slot.bytes, turn.memory_size);
+    read_memory();
+    lend_path();
+    lend_main(run, number, RECORD_WORDS);
+    switch (below(8)) {
+    case 0: do_switches(below(SWITCHES)); break;
+    case 1: do_revoke(0); break;
+    case 2: do_revoke(1); break;
+    default: do_insert(below(KINDS)); break;
+    }
+    return long_in(MAIN_NUMBER);
+}
+
+/* A main makes a few changes in its new run, and a standby of a lower one follows, whatever its table. */
+static void follow_begun(uint32_t run)
+{
+    struct standby standby;
+    uint64_t number = 0;
+
+    forget_sent();
+    for (uint32_t left = 1 + below(4); left > 0 && calls < call_limit; left--) {
+        number = make_change(run, number);
+        take_sent();
+    }
+    turn.linked = NULL;
+    memcpy(standby_slot.bytes, slots[below(SLOTS)].bytes, TABLE_BYTES);
+    make_lower_standby(&standby, run);
+    if (sent.count > 0)
+        follow_sent(&standby);
+}
+
+static void run_begin(void)
+{
+    uint32_t run = make_main_run();
+
+    begun_slot.style = (int)below(STYLES);
+    if (begin_run(run) == 0 && one_in(2))
+        follow_begun(run);
+}
+
+/* ---- what is owed */
+
+/* What is owed, whatever the model. */
+static void hold_to_owed(int32_t result)
+{
+    uint64_t has = turn.had.run == turn.had.highest_run ? turn.had.last : 0, owed = long_in(NUMBER);
+
+    if (owed != (result == 0 ? turn.had.highest - has : 0))
+        violation("result %d, %llu owed, with %llu of %llu changes of the highest run", (int)result, (unsigned long long)owed,
+                  (unsigned long long)has, (unsigned long long)turn.had.highest);
+}
+
+static int32_t call_owed(uint64_t *owed)
+{
+    struct permissions_standby standby = {turn.had.last, turn.had.highest, turn.had.run, turn.had.highest_run};
+
+    next(OWED);
+    if (one_in(4))
+        return permissions_standby_owed(&standby, owed);
+    return permissions_owed(standby.last, standby.highest, standby.run, standby.highest_run, owed);
 }
 
 static void run_owed(void)
 {
     uint64_t *owed = lend(NUMBER, NULL, sizeof *owed);
+    int32_t expected;
 
-    make_standby(&turn.had, make_record_number());
-    want_long(NUMBER, 0);
-    if (turn.had.last < turn.had.highest)
-        areas[NUMBER].open_to = sizeof *owed;
-    next(OWED);
-    (void)settle(permissions_owed(turn.had.last, turn.had.highest, owed), turn.had.last > turn.had.highest ? -1 : 0);
-    hold_to_owed();
+    make_standby(&turn.had, make_run(), make_record_number());
+    expected = model_is_standby(&turn.had) ? 0 : -1;
+    want_long(NUMBER, expected == 0 ? model_owed(&turn.had) : 0);
+    hold_to_owed(settle(call_owed(owed), expected));
 }
 
 /* ---- a permission without a path */
@@ -1561,7 +1835,7 @@ static void run_turn(void)
     static void (*const turns[])(void) = {run_insert, run_insert,       run_insert,       run_ask,      run_ask,  run_ask,
                                           run_query,  run_revoke,       run_child,        run_child,    run_used, run_head,
                                           run_arrive, run_arrive,       run_arrive,       run_switches, run_owed, run_entry,
-                                          run_image,  run_arrive_image, run_arrive_image, run_unit};
+                                          run_image,  run_arrive_image, run_arrive_image, run_unit,     run_begin};
     void (*run)(void) = one_in(80) ? run_fresh : turns[below(sizeof turns / sizeof turns[0])];
 
     lend_none();
@@ -1607,7 +1881,8 @@ static void print_wrong_images(void)
         uint32_t wrong;
     } wrongs[] = {{"a kind", WRONG_KIND}, {"words missing", WRONG_SHORT}, {"a length", WRONG_LENGTH},
                   {"what is not used", WRONG_UNUSED}, {"words left over", WRONG_OVER}, {"a path", WRONG_PATH},
-                  {"over 256 entries", WRONG_COUNT}, {"over 32,768 bytes", WRONG_SUM}, {"the marks", WRONG_MARKS}};
+                  {"over 256 entries", WRONG_COUNT}, {"over 32,768 bytes", WRONG_SUM}, {"the marks", WRONG_MARKS},
+                  {"run 0", WRONG_RUN}};
 
     printf("images with one thing wrong:");
     for (size_t i = 0; i < sizeof wrongs / sizeof wrongs[0]; i++)

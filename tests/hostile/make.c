@@ -73,6 +73,39 @@ uint64_t make_main_number(void)
     }
 }
 
+uint32_t make_run(void)
+{
+    switch (below(4)) {
+    case 0: return 1 + below(4);
+    case 1: return MAX_RUN - below(4);
+    default: return 1 + below(MAX_RUN);
+    }
+}
+
+/* A number at which something ends. */
+static uint64_t make_extreme(void)
+{
+    static const uint64_t extremes[] = {0, 1, MAX_NUMBER, MAX_NUMBER + 1, MAX_RUN, MAX_RUN + 1, UINT32_MAX, UINT64_MAX};
+    return extremes[below(sizeof extremes / sizeof extremes[0])];
+}
+
+/* A run, to whoever looks at its low 28 bits alone. */
+static uint32_t above_limit(uint32_t run)
+{
+    return run + (UINT32_C(1) << (28 + below(4)));
+}
+
+uint32_t make_main_run(void)
+{
+    if (!one_in(8))
+        return make_run();
+    switch (below(4)) {
+    case 0: return above_limit(make_run());
+    case 1: return (uint32_t)any();
+    default: return (uint32_t)make_extreme();
+    }
+}
+
 /* ---- paths */
 
 static size_t put_text(uint8_t *bytes, const char *text)
@@ -329,7 +362,7 @@ void make_damage(uint8_t *memory, size_t size)
 
 /* ---- records */
 
-enum { HEAD_WORD = 1, LENGTH_WORD, PATH_WORD, SWITCHES_WORD, NUMBER_WORD, TABLE_WORD, ENTRY_WORD };
+enum { HEAD_WORD = 1, LENGTH_WORD, PATH_WORD, SWITCHES_WORD, NUMBER_WORD, TABLE_WORD, ENTRY_WORD, RUN_WORD };
 
 static uint32_t word_of(uint32_t kind, uint32_t bits)
 {
@@ -338,18 +371,21 @@ static uint32_t word_of(uint32_t kind, uint32_t bits)
 
 uint32_t make_record_number(void)
 {
-    switch (below(4)) {
-    case 0: return 1 + below(4);
-    case 1: return MAX_NUMBER - below(4);
+    switch (below(5)) {
+    case 0: return 1;
+    case 1: return 1 + below(4);
+    case 2: return MAX_NUMBER - below(4);
     default: return 1 + below(MAX_NUMBER);
     }
 }
 
+/* Where the number is 0, n is as for number 1. */
 static uint64_t make_last(uint32_t number)
 {
+    number += number == 0;
     if (one_in(2))
         return number - 1;
-    switch (below(8)) {
+    switch (below(9)) {
     case 0: return (uint64_t)number + below(2);
     case 1: return number > 1 ? number - 2 : 0;
     case 2: return below(number);
@@ -357,37 +393,117 @@ static uint64_t make_last(uint32_t number)
     case 4: return make_main_number();
     case 5: return number - 1 + (UINT64_C(1) << (24 + below(40))); /* the one before it in its low bits alone */
     case 6: return MAX_NUMBER - below(3);
+    case 7: return make_extreme();
     default: return UINT64_MAX - below(3);
     }
 }
 
+/* The h of a standby that is in the highest run. */
 static uint64_t make_highest(uint64_t last)
 {
     if (one_in(2))
         return last;
-    switch (below(6)) {
+    switch (below(7)) {
     case 0: return last + below(4);
     case 1: return last + below(MAX_NUMBER);
     case 2: return last - 1 - below(3);
     case 3: return last + (UINT64_C(1) << below(64));
     case 4: return make_main_number();
+    case 5: return make_extreme();
     default: return UINT64_MAX - below(3);
     }
 }
 
-void make_standby(struct standby *standby, uint32_t number)
+/* The h of another run than n's: next to the number that arrives, or to n. */
+static uint64_t make_other_highest(uint64_t last, uint32_t number)
 {
+    switch (below(6)) {
+    case 0: return (uint64_t)number + below(3);
+    case 1: return number - (number > 0);
+    case 2: return last - 1 - below(3);
+    case 3: return make_main_number();
+    case 4: return make_extreme();
+    default: return make_highest(last);
+    }
+}
+
+/* The run of a standby at which something of this run arrives. */
+static uint32_t make_own_run(uint32_t run)
+{
+    if (one_in(2))
+        return run;
+    switch (below(8)) {
+    case 0: return 0;
+    case 1: return run + 1;
+    case 2: return run + below(MAX_RUN);
+    case 3: return above_limit(run);
+    case 4: return (uint32_t)make_extreme();
+    case 5: return below(run);
+    default: return run - 1;
+    }
+}
+
+/* The highest run that it met; what arrives may be above it, the same, or below it. */
+static uint32_t make_highest_run(uint32_t own, uint32_t run)
+{
+    uint32_t most = own < run ? run : own;
+
+    if (one_in(2))
+        return own;
+    switch (below(8)) {
+    case 0: return most;
+    case 1: return most + 1 + below(3);
+    case 2: return most + below(MAX_RUN);
+    case 3: return most - 1;
+    case 4: return own + below(most - own + 1);
+    case 5: return above_limit(own);
+    case 6: return own - 1;
+    default: return (uint32_t)make_extreme();
+    }
+}
+
+void make_standby(struct standby *standby, uint32_t run, uint32_t number)
+{
+    standby->run = make_own_run(run);
+    standby->highest_run = make_highest_run(standby->run, run);
     standby->last = make_last(number);
-    standby->highest = make_highest(standby->last);
+    if (standby->run == standby->highest_run)
+        standby->highest = make_highest(standby->last);
+    else
+        standby->highest = make_other_highest(standby->last, number);
+}
+
+void make_lower_standby(struct standby *standby, uint32_t run)
+{
+    standby->run = one_in(2) ? run - 1 : below(run);
+    standby->highest_run = one_in(2) ? standby->run : standby->run + below(3);
+    standby->last = one_in(2) ? below(3) : make_main_number();
+    if (standby->run == standby->highest_run)
+        standby->highest = one_in(2) ? standby->last : UINT64_MAX;
+    else
+        standby->highest = make_main_number();
+}
+
+void make_behind_standby(struct standby *standby, uint32_t run, uint32_t number)
+{
+    if (number == 0 || one_in(2)) {
+        make_lower_standby(standby, run);
+        return;
+    }
+    standby->run = run;
+    standby->highest_run = run + (one_in(2) ? 0 : below(3));
+    standby->last = below(number);
+    standby->highest = standby->last + (one_in(2) ? 0 : below(MAX_NUMBER));
 }
 
 /* A record as the model's main sends it. */
-static size_t main_record(uint32_t *words, uint32_t number, struct bytes path)
+static size_t main_record(uint32_t *words, uint32_t run, uint32_t number, struct bytes path)
 {
     static struct table table;
     static struct link link;
 
     table.count = table.sum = 0;
+    link.run = run;
     link.number = number - 1;
     link.size = 0;
     switch (below(16)) {
@@ -413,11 +529,12 @@ static size_t add_path_words(uint32_t *words, size_t count, struct bytes path)
 }
 
 /* A record with any path, of any size below 2^16. */
-static size_t path_record(uint32_t *words, uint32_t number, struct bytes path)
+static size_t path_record(uint32_t *words, uint32_t run, uint32_t number, struct bytes path)
 {
-    words[0] = word_of(HEAD_WORD, (one_in(6) ? 6 : 1 + below(4)) << 24 | number);
-    words[1] = word_of(LENGTH_WORD, (uint32_t)path.size);
-    return add_path_words(words, 2, path);
+    words[0] = word_of(RUN_WORD, run);
+    words[1] = word_of(HEAD_WORD, (one_in(6) ? 6 : 1 + below(4)) << 24 | number);
+    words[2] = word_of(LENGTH_WORD, (uint32_t)path.size);
+    return add_path_words(words, 3, path);
 }
 
 /* A resolved path of a size next to the limit, or far above it; at times what is above the limit is zero bytes. */
@@ -434,19 +551,19 @@ static struct bytes long_path(void)
     return path;
 }
 
-size_t make_record(uint32_t *words, uint32_t number, const uint8_t *path, size_t path_size)
+size_t make_record(uint32_t *words, uint32_t run, uint32_t number, const uint8_t *path, size_t path_size)
 {
     static const struct bytes root = {(const uint8_t *)"/", 1};
     struct bytes given = {path, path_size};
     struct path resolved;
 
     if (one_in(32))
-        return path_record(words, number, long_path());
+        return path_record(words, run, number, long_path());
     if (one_in(12) || model_resolve(given, root, &resolved) != 0)
-        return path_record(words, number, given);
+        return path_record(words, run, number, given);
     given.start = resolved.bytes;
     given.size = resolved.size;
-    return main_record(words, number, given);
+    return main_record(words, run, number, given);
 }
 
 static uint32_t other_length(uint32_t length)
@@ -484,24 +601,55 @@ static size_t lengthen(uint32_t *words, size_t size)
     return size;
 }
 
+/* Drops this word, or doubles it; the new count. */
+static size_t drop_word(uint32_t *words, size_t size, size_t place)
+{
+    memmove(words + place, words + place + 1, (size - place - 1) * sizeof words[0]);
+    return size - 1;
+}
+
+static size_t double_word(uint32_t *words, size_t size, size_t place)
+{
+    memmove(words + place + 1, words + place, (size - place) * sizeof words[0]);
+    return size + 1;
+}
+
+/* No run word, one with run 0 or another run, two of them, one behind the next word, or nothing else. */
+static size_t damage_run(uint32_t *words, size_t size)
+{
+    uint32_t first = words[0];
+
+    switch (below(7)) {
+    case 0: return drop_word(words, size, 0);
+    case 1: return double_word(words, size, 0);
+    case 2: size = double_word(words, size, 0); words[below(2)] = word_of(RUN_WORD, make_main_run()); return size;
+    case 3: words[0] = words[size > 1]; words[size > 1] = first; return size;
+    case 4: return 1;
+    case 5: words[0] = word_of(RUN_WORD, make_main_run()); return size;
+    default: words[0] = word_of(RUN_WORD, 0); return size;
+    }
+}
+
 size_t make_record_damage(uint32_t *words, size_t size)
 {
-    size_t some = below((uint32_t)size), last = size - 1;
+    size_t some = below((uint32_t)size), last = size - 1, head = size > 1, length = size > 2 ? 2 : head;
     uint32_t *word = &words[some];
 
+    if (one_in(4))
+        return damage_run(words, size);
     switch (below(12)) {
     case 0: *word ^= UINT32_C(1) << below(32); break;
     case 1: flip_bits((uint8_t *)words, (uint32_t)(size * sizeof *words), 1 + below(8)); break;
     case 2: return one_in(2) ? last : some; /* words missing */
     case 3: return lengthen(words, size);
     case 4: *word = word_of(below(16), *word); break;
-    case 5: words[0] = word_of(HEAD_WORD, below(16) << 24 | (words[0] & 0xFFFFFF)); break;
-    case 6: words[0] &= ~(uint32_t)0xFFFFFF; break;
-    case 7: words[size > 1] = word_of(LENGTH_WORD, other_length(words[size > 1] & 0xFFFF)); break;
+    case 5: words[head] = word_of(HEAD_WORD, below(16) << 24 | (words[head] & 0xFFFFFF)); break;
+    case 6: words[head] &= ~(uint32_t)0xFFFFFF; break;
+    case 7: words[length] = word_of(LENGTH_WORD, other_length(words[length] & 0xFFFF)); break;
     case 8: *word |= unused_bit(*word >> 28); break;
     case 9: words[last] |= (1 + below(255)) << (8 * below(2)); break; /* bytes that are perhaps not used */
-    case 10: memmove(word, word + 1, (last - some) * sizeof *word); return last;
-    default: memmove(word + 1, word, (size - some) * sizeof *word); return size + 1;
+    case 10: return drop_word(words, size, some);
+    default: return double_word(words, size, some);
     }
     return size;
 }
@@ -521,11 +669,13 @@ static uint32_t likely_word(size_t place, size_t size)
     uint32_t number = make_record_number();
 
     if (one_in(16))
-        return word_of(below(6), number);
+        return word_of(below(9), number);
     if (place == 0)
-        return word_of(HEAD_WORD, below(9) << 24 | number);
+        return word_of(RUN_WORD, make_main_run());
     if (place == 1)
-        return one_in(5) ? word_of(SWITCHES_WORD, below(40)) : word_of(LENGTH_WORD, (uint32_t)(3 * size) - 6 - below(3));
+        return word_of(HEAD_WORD, below(9) << 24 | number);
+    if (place == 2)
+        return one_in(5) ? word_of(SWITCHES_WORD, below(40)) : word_of(LENGTH_WORD, (uint32_t)(3 * size) - 9 - below(3));
     return word_of(PATH_WORD, any_three());
 }
 
@@ -544,14 +694,14 @@ static size_t make_likely(uint32_t *words, uint32_t few, uint32_t (*likely)(size
 
 size_t make_words(uint32_t *words)
 {
-    return make_likely(words, 6, likely_word);
+    return make_likely(words, 7, likely_word);
 }
 
 /* ---- images */
 
 uint32_t make_image_number(void)
 {
-    return one_in(16) ? 0 : make_record_number();
+    return one_in(8) ? 0 : make_record_number();
 }
 
 /* An image in the making, of whatever entries. */
@@ -607,37 +757,38 @@ static void add_odd_entry(struct image *image, int style)
 }
 
 /* An image that no table has, but at times for its path. */
-static size_t odd_image(uint32_t *words, uint32_t number, int style)
+static size_t odd_image(uint32_t *words, uint32_t run, uint32_t number, int style)
 {
-    struct image image = {words, 2, 0, 0};
+    struct image image = {words, 3, 0, 0};
 
     switch (below(4)) {
     case 0: add_short_entries(&image, MAX_ENTRIES + 1 + below(one_in(3) ? 600 : MAX_ENTRIES - 1)); break;
     case 1: add_long_entries(&image); break;
     default: add_odd_entry(&image, style); break;
     }
-    words[0] = word_of(NUMBER_WORD, number);
-    words[1] = word_of(TABLE_WORD, image.count << 8 | image.marks << 5 | below(SWITCHES));
+    words[0] = word_of(RUN_WORD, run);
+    words[1] = word_of(NUMBER_WORD, number);
+    words[2] = word_of(TABLE_WORD, image.count << 8 | image.marks << 5 | below(SWITCHES));
     return image.size;
 }
 
-size_t make_image(uint32_t *words, uint32_t number, int style)
+size_t make_image(uint32_t *words, uint32_t run, uint32_t number, int style)
 {
     static uint8_t memory[TABLE_BYTES];
     static struct table table;
 
     if (one_in(3))
-        return odd_image(words, number, style);
+        return odd_image(words, run, number, style);
     make_table(memory, style);
     (void)model_reads(memory, sizeof memory, &table);
-    return model_image(&table, number, words);
+    return model_image(&table, run, number, words);
 }
 
 /* The place of some entry's word, by what the image says, and the last word's where that is none. */
 static size_t some_image_entry(const uint32_t *words, size_t size)
 {
-    uint32_t count = words[1] >> 8 & 511;
-    size_t at = 2;
+    uint32_t count = words[2] >> 8 & 511;
+    size_t at = 3;
 
     for (uint32_t i = count == 0 ? 0 : below(count); i > 0 && at < size; i--)
         at += 1 + ((words[at] & 0xFFFF) + 2) / 3;
@@ -657,14 +808,14 @@ static uint32_t other_count(uint32_t count)
 
 static void set_count(uint32_t *words, uint32_t count)
 {
-    words[1] = (words[1] & ~(UINT32_C(511) << 8)) | (count & 511) << 8;
+    words[2] = (words[2] & ~(UINT32_C(511) << 8)) | (count & 511) << 8;
 }
 
 /* An entry more, the root, with the count or without it. */
 static size_t add_root(uint32_t *words, size_t size)
 {
     if (!one_in(4))
-        set_count(words, (words[1] >> 8 & 511) + 1);
+        set_count(words, (words[2] >> 8 & 511) + 1);
     words[size] = word_of(ENTRY_WORD, KIND_G << 16 | 1);
     words[size + 1] = word_of(PATH_WORD, (uint32_t)'/' << 16);
     return size + 2;
@@ -674,23 +825,28 @@ static size_t damage_image(uint32_t *words, size_t size)
 {
     size_t some = below((uint32_t)size), last = size - 1, entry = some_image_entry(words, size);
     size_t ends = entry + ((words[entry] & 0xFFFF) + 2) / 3; /* the entry's last word */
-    uint32_t *word = one_in(2) ? &words[some] : &words[one_in(2) ? entry : below(2)];
+    uint32_t *word;
 
+    if (!one_in(2))
+        some = one_in(2) ? entry : below(3);
+    word = &words[some];
+    if (one_in(6))
+        return damage_run(words, size);
     switch (below(17)) {
     case 0: *word ^= UINT32_C(1) << below(32); break;
     case 1: flip_bits((uint8_t *)words, (uint32_t)(size * sizeof *words), 1 + below(8)); break;
     case 2: return one_in(2) ? last : some; /* words missing */
     case 3: return lengthen(words, size);
     case 4: *word = word_of(below(16), *word); break;
-    case 5: set_count(words, other_count(words[1] >> 8 & 511)); break;
-    case 6: words[1] ^= (1 + below(7)) << 5; break; /* other marks */
-    case 7: words[1] ^= UINT32_C(1) << below(5); break; /* another switch: an image */
+    case 5: set_count(words, other_count(words[2] >> 8 & 511)); break;
+    case 6: words[2] ^= (1 + below(7)) << 5; break; /* other marks */
+    case 7: words[2] ^= UINT32_C(1) << below(5); break; /* another switch: an image */
     case 8: words[entry] = word_of(ENTRY_WORD, (words[entry] & 0x30000) + other_length(words[entry] & 0xFFFF)); break;
     case 9: *word |= unused_bit(*word >> 28); break;
     case 10: words[ends < size ? ends : last] |= (1 + below(255)) << (8 * below(2)); break; /* bytes that are perhaps not used */
-    case 11: memmove(word, word + 1, (size_t)(words + last - word) * sizeof *word); return last;
-    case 12: memmove(word + 1, word, (size_t)(words + size - word) * sizeof *word); return size + 1;
-    case 13: words[0] = word_of(NUMBER_WORD, make_image_number()); break;
+    case 11: return drop_word(words, size, some);
+    case 12: return double_word(words, size, some);
+    case 13: words[1] = word_of(NUMBER_WORD, make_image_number()); break;
     case 14: words[entry] ^= (1 + below(3)) << 16; break; /* another kind of entry */
     case 15: words[entry < last ? entry + 1 : last] = word_of(PATH_WORD, any_three()); break;
     default: return add_root(words, size);
@@ -700,7 +856,7 @@ static size_t damage_image(uint32_t *words, size_t size)
 
 size_t make_image_damage(uint32_t *words, size_t size)
 {
-    for (uint32_t hits = one_in(4) ? 1 + below(4) : 1; hits > 0 && size >= 2 && size + 4 < MOST_WORDS; hits--)
+    for (uint32_t hits = one_in(4) ? 1 + below(4) : 1; hits > 0 && size >= 3 && size + 4 < MOST_WORDS; hits--)
         size = damage_image(words, size);
     return size;
 }
@@ -712,15 +868,17 @@ static uint32_t likely_image_word(size_t place, size_t size)
     if (one_in(16))
         return word_of(below(9), make_record_number());
     if (place == 0)
-        return word_of(NUMBER_WORD, make_image_number());
+        return word_of(RUN_WORD, make_main_run());
     if (place == 1)
+        return word_of(NUMBER_WORD, make_image_number());
+    if (place == 2)
         return word_of(TABLE_WORD, below(4) << 8 | marks[below(KINDS)] << 5 | below(SWITCHES));
-    if (place % 2 == 0)
+    if (place % 2 == 1)
         return word_of(ENTRY_WORD, below(KINDS) << 16 | (1 + below(3)));
     return word_of(PATH_WORD, any_three());
 }
 
 size_t make_image_words(uint32_t *words)
 {
-    return make_likely(words, 8, likely_image_word);
+    return make_likely(words, 9, likely_image_word);
 }

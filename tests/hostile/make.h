@@ -31,6 +31,12 @@ uint32_t make_number(uint32_t known);
 /* A number of the main's: mostly one that is left, else next to the limit or far above it. */
 uint64_t make_main_number(void);
 
+/* 1 to MAX_RUN, at times next to one of them. */
+uint32_t make_run(void);
+
+/* A run as a main hands it in: mostly one that there is, else 0, just above the limit or far above it. */
+uint32_t make_main_run(void);
+
 /* At most LONGEST_PATH bytes; their count. */
 size_t make_path(uint8_t *path, int style);
 size_t make_directory(uint8_t *directory);
@@ -44,13 +50,19 @@ void make_damage(uint8_t *memory, size_t size);
 /* 1 to MAX_NUMBER, at times next to one of them. */
 uint32_t make_record_number(void);
 
-/* The numbers of a standby for which a record of this number is mostly the next one, else a repeat or early; n may be above
- * MAX_NUMBER, and above h. */
-void make_standby(struct standby *standby, uint32_t number);
+/* The numbers of a standby for which a record of this run and number is mostly the next one, else a repeat, early or of another
+ * run; each may be above its limit, n above h, and the run above the highest one. */
+void make_standby(struct standby *standby, uint32_t run, uint32_t number);
+
+/* Numbers that a standby of a run below this one may have. */
+void make_lower_standby(struct standby *standby, uint32_t run);
+
+/* Numbers that a standby may have that is behind this number of this run. */
+void make_behind_standby(struct standby *standby, uint32_t run, uint32_t number);
 
 /* A record as a main writes it, or the same with a path that is not resolved or too long; the count of its words, at most
  * MOST_WORDS as in all of these. */
-size_t make_record(uint32_t *words, uint32_t number, const uint8_t *path, size_t path_size);
+size_t make_record(uint32_t *words, uint32_t run, uint32_t number, const uint8_t *path, size_t path_size);
 
 /* Damages a record; at times another one comes out. The new count of words. */
 size_t make_record_damage(uint32_t *words, size_t size);
@@ -63,9 +75,9 @@ uint32_t make_image_number(void);
 
 /* An image of a table of any size, or one that no table has: of too many entries or bytes, or with a path that is not resolved
  * or too long. */
-size_t make_image(uint32_t *words, uint32_t number, int style);
+size_t make_image(uint32_t *words, uint32_t run, uint32_t number, int style);
 
-/* Damages an image of two words or more, at one place or a few; at times another one comes out. The new count of words. */
+/* Damages an image of three words or more, at one place or a few; at times another one comes out. The new count of words. */
 size_t make_image_damage(uint32_t *words, size_t size);
 
 /* Words of any bits, or with the kinds of an image; seldom they are one. */

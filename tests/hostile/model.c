@@ -136,13 +136,18 @@ static size_t read_entry(const uint8_t *memory, size_t size, size_t at, struct e
     return at + 3 + entry->path.size;
 }
 
+static void clear(struct table *table)
+{
+    table->count = table->sum = 0;
+    table->switches = table->marks = 0;
+}
+
 int model_reads(const uint8_t *memory, size_t size, struct table *table)
 {
     size_t at = 4;
     uint32_t marks = 0;
 
-    table->count = table->sum = 0;
-    table->switches = table->marks = 0;
+    clear(table);
     if (size < TABLE_BYTES || word_at(memory, 0) > MAX_ENTRIES || memory[2] >= SWITCHES)
         return 0;
     for (size_t count = word_at(memory, 0); table->count < count;) {
@@ -181,7 +186,7 @@ void model_writes(const struct table *table, uint8_t *memory)
 
 /* ---- records */
 
-enum { HEAD = 1, LENGTH, PATH_BYTES, SWITCHES_WORD };
+enum { HEAD = 1, LENGTH, PATH_BYTES, SWITCHES_WORD, NUMBER_WORD, TABLE_WORD, ENTRY_WORD, RUN_WORD };
 enum { ACT_SWITCHES = 5, ACT_REVOKE, ACT_REVOKE_ALL };
 
 static uint32_t act_of_insert(uint32_t kind)
@@ -195,7 +200,7 @@ static void add_word(struct link *link, uint32_t kind, uint32_t below)
     link->words[link->size++] = kind << 28 | below;
 }
 
-/* Numbers an act and writes its record's head; -9 where its number would be too great. A plain call records nothing. */
+/* Numbers an act and writes its record's run and head; -9 where its number would be too great. A plain call records nothing. */
 static int add_head(struct link *link, uint32_t act)
 {
     if (link == NULL)
@@ -203,6 +208,7 @@ static int add_head(struct link *link, uint32_t act)
     if (link->number >= MAX_NUMBER)
         return -9;
     link->number++;
+    add_word(link, RUN_WORD, link->run);
     add_word(link, HEAD, act << 24 | (uint32_t)link->number);
     return 0;
 }
@@ -527,8 +533,7 @@ int model_child(struct table *parent, struct table *child, const struct child_ca
     int refused = 0;
 
     *asked = 0;
-    child->count = child->sum = 0;
-    child->switches = child->marks = 0;
+    clear(child);
     if (call->code == INHERIT)
         *child = *parent;
     else if (call->code == CHILD_GRANTED)
@@ -546,7 +551,7 @@ int model_child(struct table *parent, struct table *child, const struct child_ca
 
 /* A record as it was read: the path of acts 1 to 4 and 6, the switches of act 5. */
 struct record {
-    uint32_t act, number, switches;
+    uint32_t run, act, number, switches;
     struct path path;
 };
 
@@ -569,6 +574,16 @@ static uint32_t next_word(struct reader *reader, uint32_t kind)
     if (word >> 28 != kind)
         reader->wrong |= WRONG_KIND;
     return word & 0xFFFFFFF;
+}
+
+/* The run that comes next. */
+static uint32_t next_run(struct reader *reader)
+{
+    uint32_t run = next_word(reader, RUN_WORD);
+
+    if (run == 0)
+        reader->wrong |= WRONG_RUN;
+    return run;
 }
 
 /* Whether what comes next can still be read. */
@@ -612,8 +627,10 @@ static void read_path(struct reader *reader, struct path *path, size_t size)
 static int read_record(const uint32_t *words, size_t size, struct record *record)
 {
     struct reader reader = {words, size, 0, 0};
-    uint32_t head = next_word(&reader, HEAD);
+    uint32_t head;
 
+    record->run = next_run(&reader);
+    head = next_word(&reader, HEAD);
     record->act = head >> 24;
     record->number = head & 0xFFFFFF;
     if (record->act == ACT_SWITCHES) {
@@ -642,35 +659,85 @@ static int do_act(struct table *table, const struct record *record)
     return 0;
 }
 
+int model_is_run(uint32_t run)
+{
+    return run >= 1 && run <= MAX_RUN;
+}
+
+int model_is_standby(const struct standby *standby)
+{
+    if (standby->run == standby->highest_run)
+        return standby->last <= standby->highest;
+    return standby->run < standby->highest_run;
+}
+
+uint64_t model_owed(const struct standby *standby)
+{
+    return standby->run == standby->highest_run ? standby->highest - standby->last : standby->highest;
+}
+
+/* Whatever is not refused is met. */
+static void meet(struct standby *standby, uint32_t run, uint32_t number)
+{
+    if (run > standby->highest_run) {
+        standby->highest_run = run;
+        standby->highest = number;
+    } else if (run == standby->highest_run && number > standby->highest) {
+        standby->highest = number;
+    }
+}
+
+/* The answer to a record, but for 8. */
+static int answer_to(const struct record *record, const struct standby *standby)
+{
+    if (record->run < standby->run)
+        return REPEAT;
+    if (record->run > standby->run)
+        return record->number == 1 ? APPLIED : EARLY;
+    if (record->number <= standby->last)
+        return REPEAT;
+    return record->number - standby->last == 1 ? APPLIED : EARLY;
+}
+
+/* Does the record's act, on a fresh table where a higher run begins with it; 0, or -8. */
+static int apply(const struct record *record, struct table *table, struct standby *standby)
+{
+    int refused;
+
+    if (record->run > standby->run)
+        clear(table);
+    refused = do_act(table, record);
+    if (refused == 0) {
+        standby->run = record->run;
+        standby->last = record->number;
+    }
+    return refused;
+}
+
 int model_arrive(struct table *table, struct standby *standby, const uint32_t *words, size_t size)
 {
     static struct record record; /* the table points here */
-    int is_next, refused;
+    int answer, refused;
 
     if (!read_record(words, size, &record))
         return -11;
-    if (record.number <= standby->last)
-        return REPEAT;
-    is_next = record.number - standby->last == 1;
-    refused = is_next ? do_act(table, &record) : 0;
+    answer = answer_to(&record, standby);
+    refused = answer == APPLIED ? apply(&record, table, standby) : 0;
     if (refused != 0)
         return refused;
-    if (is_next)
-        standby->last = record.number;
-    if (standby->highest < record.number)
-        standby->highest = record.number;
-    return is_next ? APPLIED : EARLY;
+    meet(standby, record.run, record.number);
+    return answer;
 }
 
 /* ---- images */
 
-enum { NUMBER_WORD = 5, TABLE_WORD, ENTRY_WORD };
 enum { MOST_COUNT = 511 /* nine bits */ };
 
-size_t model_image(const struct table *table, uint32_t number, uint32_t *words)
+size_t model_image(const struct table *table, uint32_t run, uint32_t number, uint32_t *words)
 {
     size_t size = 0;
 
+    words[size++] = (uint32_t)RUN_WORD << 28 | run;
     words[size++] = (uint32_t)NUMBER_WORD << 28 | number;
     words[size++] = (uint32_t)TABLE_WORD << 28 | (uint32_t)table->count << 8 | table->marks << 5 | table->switches;
     for (size_t i = 0; i < table->count; i++) {
@@ -684,7 +751,7 @@ size_t model_image(const struct table *table, uint32_t number, uint32_t *words)
 
 /* An image as it was read. */
 struct image {
-    uint32_t number;
+    uint32_t run, number;
     struct table table;
 };
 
@@ -711,9 +778,10 @@ static uint32_t read_image(const uint32_t *words, size_t size, struct image *ima
     static struct path paths[MOST_COUNT];
     struct reader reader = {words, size, 0, 0};
     struct table *table = &image->table;
-    uint32_t number = next_word(&reader, NUMBER_WORD), head = next_word(&reader, TABLE_WORD), marks = 0;
-    uint32_t count = head >> 8 & MOST_COUNT;
+    uint32_t run = next_run(&reader), number = next_word(&reader, NUMBER_WORD), head = next_word(&reader, TABLE_WORD);
+    uint32_t count = head >> 8 & MOST_COUNT, marks = 0;
 
+    image->run = run;
     image->number = number & MAX_NUMBER;
     table->count = table->sum = 0;
     table->switches = head & 31;
@@ -745,16 +813,18 @@ uint32_t model_wrong_image(const uint32_t *words, size_t size)
 int model_arrive_image(struct table *table, struct standby *standby, const uint32_t *words, size_t size)
 {
     static struct image image;
+    int takes;
 
     if (read_image(words, size, &image) != 0)
         return -13;
-    if (image.number <= standby->last)
-        return REPEAT;
-    *table = image.table;
-    standby->last = image.number;
-    if (standby->highest < image.number)
-        standby->highest = image.number;
-    return TAKEN;
+    takes = image.run > standby->run || (image.run == standby->run && image.number > standby->last);
+    if (takes) {
+        *table = image.table;
+        standby->run = image.run;
+        standby->last = image.number;
+    }
+    meet(standby, image.run, image.number);
+    return takes ? TAKEN : REPEAT;
 }
 
 /* ---- a permission without a path */

@@ -13,9 +13,10 @@ enum {
     MAX_PATH = 1024,
     MAX_SUM = 32768,
     MAX_ITEMS = 64,
-    RECORD_WORDS = 344,  /* of the record space, for each child item */
-    IMAGE_WORDS = 11351, /* of the largest image */
-    MAX_NUMBER = 16777215
+    RECORD_WORDS = 345,  /* of the record space, for each child item */
+    IMAGE_WORDS = 11352, /* of the largest image */
+    MAX_NUMBER = 16777215,
+    MAX_RUN = 268435455
 };
 
 enum { KIND_G, KIND_D, KIND_P, KIND_I, KINDS };
@@ -39,7 +40,8 @@ enum {
     WRONG_COUNT = 64,  /* above 256 entries */
     WRONG_SUM = 128,   /* above 32,768 path bytes */
     WRONG_MARKS = 256, /* not those of the kinds that are there */
-    WRONG_ALL = 511
+    WRONG_RUN = 512,   /* run 0 */
+    WRONG_ALL = 1023
 };
 
 struct bytes {
@@ -64,16 +66,19 @@ struct table {
     struct entry entries[MAX_ENTRIES];
 };
 
-/* What a linked call sends: the main's number, which each act raises, and the words of the records. */
+/* What a linked call sends: the main's run, its number, which each act raises, and the words of the records. */
 struct link {
+    uint32_t run;
     uint64_t number;
     size_t size;
     uint32_t words[MAX_ITEMS * RECORD_WORDS];
 };
 
-/* A standby's numbers: n, the last change applied, and h, the highest number in any record not refused. */
+/* A standby's numbers: n, the last change that its table has; h, the highest number met in the highest run met; the run of its
+ * table; and that highest run. */
 struct standby {
     uint64_t last, highest;
+    uint32_t run, highest_run;
 };
 
 struct child_call {
@@ -112,12 +117,21 @@ int model_child_arguments(const struct child_call *call);
 int model_child(struct table *parent, struct table *child, const struct child_call *call, struct link *link,
                 uint32_t *asked);
 
-/* Takes the words of one record at a standby whose n is not above its h. Result: the answer, -11 or -8. The table may point
+/* Whether a run may have this number. */
+int model_is_run(uint32_t run);
+
+/* Whether a standby may have these numbers. */
+int model_is_standby(const struct standby *standby);
+
+/* How many changes of the highest run a standby has heard of and not applied. */
+uint64_t model_owed(const struct standby *standby);
+
+/* Takes the words of one record at a standby with numbers that it may have. Result: the answer, -11 or -8. The table may point
  * into memory that lives until the next call. */
 int model_arrive(struct table *table, struct standby *standby, const uint32_t *words, size_t size);
 
-/* Writes the image of a table with a number; the count of its words, at most IMAGE_WORDS. */
-size_t model_image(const struct table *table, uint32_t number, uint32_t *words);
+/* Writes the image of a table with a run and a number; the count of its words, at most IMAGE_WORDS. */
+size_t model_image(const struct table *table, uint32_t run, uint32_t number, uint32_t *words);
 
 /* What is wrong with the words of an image: a sum of WRONG_.., 0 if nothing is. */
 uint32_t model_wrong_image(const uint32_t *words, size_t size);

@@ -1,4 +1,4 @@
-/* The main: random linked calls, what stands after each of its changes, and images. */
+/* The main: runs that rise, random linked calls, what stands after each of its changes, and images. */
 #include "mainside.h"
 #include "areas.h"
 #include "chance.h"
@@ -35,6 +35,51 @@ int same_table(const unsigned char *one, const unsigned char *other)
     return size == used(other) && memcmp(one, other, size) == 0;
 }
 
+/* ---- the history */
+
+static void *copy_of(const void *bytes, size_t size)
+{
+    void *copy = malloc(size);
+
+    if (copy == NULL)
+        fault("no memory is left");
+    return memcpy(copy, bytes, size);
+}
+
+static void keep_table(struct place *place, const unsigned char *memory)
+{
+    place->table_size = used(memory);
+    place->table = copy_of(memory, place->table_size);
+}
+
+static void clear_history(void)
+{
+    static const unsigned char fresh[FRESH_BYTES];
+
+    for (size_t i = 0; i <= history.last; i++) {
+        free(history.places[i].words);
+        free(history.places[i].table);
+        free(history.places[i].image);
+    }
+    memset(&history, 0, sizeof history);
+    history.places[0].table_size = FRESH_BYTES;
+    history.places[0].table = copy_of(fresh, FRESH_BYTES);
+}
+
+size_t place_of(uint32_t run, uint64_t number)
+{
+    size_t place = history.last;
+    uint64_t back;
+
+    while (history.places[place].run > run)
+        place--;
+    back = history.places[place].number - number;
+    place -= back < place ? (size_t)back : place;
+    if (history.places[place].run != run || history.places[place].number != number)
+        fault("the main never had the number %lu in run %lu", (unsigned long)number, (unsigned long)run);
+    return place;
+}
+
 /* ---- one call, with all that it is lent */
 
 enum { INSERT, SWITCHES, CHECK, CHECK_ALL, REQUEST, REQUEST_ALL, REVOKE, REVOKE_ALL, CHILD, QUERY, CALLS };
@@ -56,6 +101,7 @@ enum { RIGHT, SHORT_MEMORY, SHORT_TEXT, SHORT_RECORDS, UNKNOWN_NUMBER, REFUSED_P
 
 static struct call {
     int kind, wrong;
+    uint32_t run; /* the caller's, or at times a number that no run has */
     struct given given;
     uint32_t word; /* the entry's kind, the switches or the mode */
     uint32_t answer;
@@ -97,6 +143,16 @@ static void *lend(unsigned char *end, const void *contents, size_t size)
     return size == 0 ? end : memcpy(end - size, contents, size);
 }
 
+/* Whether nothing was written from here up to an area's end. */
+static int is_untouched(const void *from, const unsigned char *end)
+{
+    const unsigned char *byte = from;
+
+    while (byte < end && *byte == PATTERN)
+        byte++;
+    return byte == end;
+}
+
 /* ---- what a call is handed, at random */
 
 static uint32_t random_switches(void)
@@ -110,6 +166,17 @@ static uint32_t random_switches(void)
 static uint32_t random_answer(void)
 {
     return one_in(10) ? PERMISSIONS_ANSWER_ALLOW_ALL : below(2);
+}
+
+/* A number that no run has; it may have one in its low bits. */
+static uint32_t no_run(void)
+{
+    switch (below(4)) {
+    case 0: return PERMISSIONS_MAX_RUN + 1;
+    case 1: return PERMISSIONS_MAX_RUN + 1 + below(UINT32_MAX - PERMISSIONS_MAX_RUN);
+    case 2: return UINT32_MAX;
+    default: return 0;
+    }
 }
 
 static void add_item(const struct profile *profile, const unsigned char *memory)
@@ -161,6 +228,7 @@ static void make_call(const struct caller *caller, const struct profile *profile
 {
     call.kind = random_kind();
     call.wrong = percent(4) ? (int)below(WRONGS) : RIGHT;
+    call.run = percent(2) ? no_run() : caller->run;
     call.count = call.items_size = call.answers_count = 0;
     if (call.wrong == REFUSED_PATH)
         make_refused_path(&call.given);
@@ -203,11 +271,12 @@ static void lend_all(struct caller *caller)
     lent.records = (uint32_t *)(void *)(records_end - lent.records_space * sizeof(uint32_t));
     memcpy(before, lent.memory, TABLE);
     memset(lent.records, PATTERN, lent.records_space * sizeof(uint32_t));
+    memset(lent.text, PATTERN, lent.text_space);
     call.asked = 0;
     call.text_size = call.records_size = 0;
 }
 
-#define MEMORY lent.memory, lent.memory_size, lent.number
+#define MEMORY lent.memory, lent.memory_size, call.run, lent.number
 #define PATH lent.path, lent.path_size, lent.directory, lent.directory_size
 #define ANSWER call.answer, lent.text, lent.text_space
 #define RECORDS lent.records, lent.records_space
@@ -240,10 +309,46 @@ static int32_t result_of_call(void)
     }
 }
 
+/* The refusal of a call that is handed a number which no run has: by 3, unless an area that is too small comes first. */
+static int32_t refusal_of_no_run(void)
+{
+    int has_text = call.kind == CHECK || call.kind == CHECK_ALL || call.kind == REQUEST || call.kind == REQUEST_ALL;
+
+    if (call.wrong == SHORT_MEMORY)
+        return PERMISSIONS_REFUSAL_NO_TABLE;
+    if (call.wrong == SHORT_RECORDS || (call.wrong == SHORT_TEXT && has_text))
+        return PERMISSIONS_REFUSAL_NO_SPACE;
+    return PERMISSIONS_REFUSAL_UNKNOWN;
+}
+
+/* Such a call leaves every area and the number as they were. */
+static void hold_no_run(uint64_t number)
+{
+    const char *name = calls[call.kind].name;
+
+    if (call.result != refusal_of_no_run())
+        fault("%s with the run %lu is answered %d, not %d", name, (unsigned long)call.run, (int)call.result,
+              (int)refusal_of_no_run());
+    if (*lent.number != number || memcmp(before, lent.memory, TABLE) != 0)
+        fault("%s with the run %lu changed the table or the number", name, (unsigned long)call.run);
+    if (call.asked != 0 || call.text_size != 0 || call.records_size != 0 || !is_untouched(lent.text, text_end) ||
+        !is_untouched(lent.records, records_end) || (call.kind == CHILD && !is_untouched(child_end - TABLE, child_end)))
+        fault("%s with the run %lu asked, or wrote a text, records or a child", name, (unsigned long)call.run);
+    counts.no_runs++;
+}
+
+/* A query is the one call that is handed no run. */
 static void do_call(struct caller *caller)
 {
+    uint64_t number = caller->number;
+    int has_no_run = call.run != caller->run && call.kind != QUERY;
+
     lend_all(caller);
+    if (has_no_run)
+        memset(child_end - TABLE, PATTERN, TABLE);
     call.result = result_of_call();
+    if (has_no_run)
+        hold_no_run(number);
 }
 
 /* ---- what came out */
@@ -254,28 +359,27 @@ static void hold_record_space(void)
     if (call.records_size > lent.records_space)
         fault("%s says that it wrote %lu words into %lu", calls[call.kind].name, (unsigned long)call.records_size,
               (unsigned long)lent.records_space);
-    for (const unsigned char *byte = (const unsigned char *)(lent.records + call.records_size); byte < records_end; byte++)
-        if (*byte != PATTERN)
-            fault("%s wrote behind its records", calls[call.kind].name);
+    if (!is_untouched(lent.records + call.records_size, records_end))
+        fault("%s wrote behind its records", calls[call.kind].name);
 }
 
-/* The words up to the next head, which has kind 1 in its top four bits. */
+/* The words up to the next run word, at which the next record begins. */
 static size_t record_length(const uint32_t *words, size_t count)
 {
     size_t length = 1;
 
-    while (length < count && words[length] >> 28 != 1)
+    while (length < count && words[length] >> 28 != RUN_KIND >> 28)
         length++;
     return length;
 }
 
-static void keep_table(struct change *change, const unsigned char *memory)
+/* A record begins with the main's run and its number. */
+static void hold_front(const uint32_t *words, uint64_t number)
 {
-    change->table_size = used(memory);
-    change->table = malloc(change->table_size);
-    if (change->table == NULL)
-        fault("no memory is left");
-    memcpy(change->table, memory, change->table_size);
+    if (words[RUN_WORD] != (RUN_KIND | the_main.run))
+        fault("a record begins with %08lX in run %lu", (unsigned long)words[RUN_WORD], (unsigned long)the_main.run);
+    if (number_of_words(words) != number)
+        fault("a record has the number %lu, not %lu", (unsigned long)number_of_words(words), (unsigned long)number);
 }
 
 /* The call's records go to the history, one for each act, numbered on. */
@@ -285,18 +389,15 @@ static void keep_records(size_t acts)
     size_t at = 0;
 
     for (size_t i = 1; i <= acts; i++) {
-        struct change *change = &history.changes[history.count + i];
-        if (at == call.records_size)
+        struct place *place = &history.places[history.last + i];
+        if (call.records_size - at <= NUMBER_WORD)
             fault("%s made %lu acts and fewer records", calls[call.kind].name, (unsigned long)acts);
-        if ((words[at] & 0xFFFFFF) != history.first + history.count + i)
-            fault("a record has the number %lu, not %lu", (unsigned long)(words[at] & 0xFFFFFF),
-                  (unsigned long)(history.first + history.count + i));
-        change->words_count = record_length(words + at, call.records_size - at);
-        change->words = malloc(change->words_count * sizeof(uint32_t));
-        if (change->words == NULL)
-            fault("no memory is left");
-        memcpy(change->words, words + at, change->words_count * sizeof(uint32_t));
-        at += change->words_count;
+        place->run = the_main.run;
+        place->number = history.places[history.last].number + i;
+        hold_front(words + at, place->number);
+        place->words_count = record_length(words + at, call.records_size - at);
+        place->words = copy_of(words + at, place->words_count * sizeof(uint32_t));
+        at += place->words_count;
     }
     if (at != call.records_size)
         fault("%s wrote more records than it made acts", calls[call.kind].name);
@@ -329,7 +430,7 @@ static void keep_tables_between(size_t acts)
         uint32_t asked;
         check_item(copy, item, &asked);
         if (asked)
-            keep_table(&history.changes[history.count + ++made], copy);
+            keep_table(&history.places[history.last + ++made], copy);
     }
     if (made != acts)
         fault("a child call made %lu acts, and its items one by one make %lu", (unsigned long)acts, (unsigned long)made);
@@ -347,21 +448,63 @@ static void count_call(size_t acts)
     counts.children_several += acts > 1;
 }
 
-void begin_main(uint64_t number)
+/* ---- a run begins */
+
+void begin_main(uint32_t run, uint64_t number)
 {
     make_areas();
-    for (size_t k = 0; k <= history.count; k++) {
-        free(history.changes[k].words);
-        free(history.changes[k].table);
-        free(history.changes[k].image);
-    }
-    memset(&history, 0, sizeof history);
-    history.first = the_main.number = number;
-    make_noise(the_main.memory, TABLE);
-    if (permissions_fresh(the_main.memory, TABLE) != 0)
-        fault("no fresh table");
-    keep_table(&history.changes[0], the_main.memory);
+    clear_history();
+    begin_run(run);
+    history.places[history.last].number = the_main.number = number;
 }
+
+/* On another board neither the memory nor the number is what the main had. */
+static void change_board(void)
+{
+    make_noise(the_main.memory, TABLE);
+    make_noise(&the_main.number, sizeof the_main.number);
+}
+
+void begin_run(uint32_t run)
+{
+    struct place *place = &history.places[++history.last];
+
+    if (one_in(2) || history.last == 1)
+        change_board();
+    memcpy(before, the_main.memory, TABLE);
+    if (permissions_begin_run(the_main.memory, TABLE, run, &the_main.number) != 0)
+        fault("run %lu does not begin", (unsigned long)run);
+    if (the_main.number != 0)
+        fault("run %lu begins with the number %lu", (unsigned long)run, (unsigned long)the_main.number);
+    keep_table(place, the_main.memory);
+    if (place->table_size != FRESH_BYTES || memcmp(place->table, history.places[0].table, FRESH_BYTES) != 0)
+        fault("run %lu begins with a table that is not fresh", (unsigned long)run);
+    if (memcmp(before + FRESH_BYTES, the_main.memory + FRESH_BYTES, TABLE - FRESH_BYTES) != 0)
+        fault("the beginning of run %lu changed a byte behind the table", (unsigned long)run);
+    place->run = the_main.run = run;
+    history.begun = history.last;
+    counts.runs++;
+}
+
+/* The memory is too small, which comes first, or the number is none of a run's. */
+void begin_run_refused(void)
+{
+    size_t size = one_in(2) ? TABLE : below(TABLE);
+    uint32_t run = size < TABLE && one_in(2) ? the_main.run : no_run();
+    int32_t result, wanted = size < TABLE ? PERMISSIONS_REFUSAL_NO_TABLE : PERMISSIONS_REFUSAL_UNKNOWN;
+    uint64_t number = the_main.number;
+
+    memcpy(before, the_main.memory, TABLE);
+    result = permissions_begin_run(the_main.memory + TABLE - size, size, run, &the_main.number);
+    if (result != wanted)
+        fault("the beginning of run %lu in %lu bytes is answered %d, not %d", (unsigned long)run, (unsigned long)size,
+              (int)result, (int)wanted);
+    if (the_main.number != number || memcmp(before, the_main.memory, TABLE) != 0)
+        fault("a beginning that is refused by %d changed the table or the number", (int)-result);
+    counts.begins_refused[-result]++;
+}
+
+/* ---- a call of the main */
 
 void call_main(const struct profile *profile)
 {
@@ -382,8 +525,9 @@ void call_main(const struct profile *profile)
     if (call.kind == CHILD)
         keep_tables_between(acts);
     else if (acts == 1)
-        keep_table(&history.changes[history.count + 1], the_main.memory);
-    history.count += acts;
+        keep_table(&history.places[history.last + 1], the_main.memory);
+    history.last += acts;
+    history.changes += acts;
     count_call(acts);
 }
 
@@ -395,36 +539,29 @@ static uint32_t *image_space(size_t words)
     return (uint32_t *)(void *)(image_end - words * sizeof(uint32_t));
 }
 
+/* What an image call is handed beside the memory and the space themselves. */
+struct image_call {
+    size_t memory_size;
+    uint32_t run;
+    uint64_t number;
+    size_t space;
+};
+
 /* Makes the call, which may write the first `writes` words of its space and nothing else. */
-static int32_t call_image(const struct caller *caller, size_t memory_size, uint64_t number, size_t space, size_t writes,
-                          size_t *size)
+static int32_t call_image(const struct caller *caller, const struct image_call *with, size_t writes, size_t *size)
 {
-    const unsigned char *written = (const unsigned char *)(image_space(space) + writes);
+    uint32_t *space = image_space(with->space);
     int32_t result;
 
     memcpy(before, caller->memory, TABLE);
-    memset(image_space(space), PATTERN, space * sizeof(uint32_t));
+    memset(space, PATTERN, with->space * sizeof(uint32_t));
     *size = 99;
-    result = permissions_linked_image(caller->memory, memory_size, number, image_space(space), space, size);
+    result = permissions_linked_image(caller->memory, with->memory_size, with->run, with->number, space, with->space, size);
     if (memcmp(before, caller->memory, TABLE) != 0)
         fault("an image changed the table");
-    for (const unsigned char *byte = written; byte < image_end; byte++)
-        if (*byte != PATTERN)
-            fault("an image, answered %d, wrote more than %lu words", (int)result, (unsigned long)writes);
+    if (!is_untouched(space + writes, image_end))
+        fault("an image, answered %d, wrote more than %lu words", (int)result, (unsigned long)writes);
     return result;
-}
-
-/* A call that must be refused, write nothing, and tell this size. */
-static void hold_image_refused(const struct caller *caller, size_t memory_size, uint64_t number, size_t space, int32_t wanted,
-                               size_t wanted_size)
-{
-    size_t size;
-    int32_t result = call_image(caller, memory_size, number, space, 0, &size);
-
-    if (result != wanted || size != wanted_size)
-        fault("an image is answered %d with %lu words, not %d with %lu", (int)result, (unsigned long)size, (int)wanted,
-              (unsigned long)wanted_size);
-    counts.images_refused[-result]++;
 }
 
 static uint64_t number_above(uint64_t number)
@@ -437,69 +574,112 @@ static uint64_t number_above(uint64_t number)
     }
 }
 
-/* An image that is refused, by one cause or by the first of several. */
-static void try_refused_image(const struct caller *caller, size_t size)
+/* Something is wrong with the call, or several things are. Of several the last one put in here is looked for first.
+ * Result: the refusal; 0 where nothing is wrong. */
+static int32_t make_image_refused(struct image_call *with)
 {
-    uint64_t above = number_above(caller->number);
+    int32_t wanted = 0;
 
-    switch (below(5)) {
-    case 0: hold_image_refused(caller, TABLE, caller->number, size - 1, PERMISSIONS_REFUSAL_NO_SPACE, size); break;
-    case 1: hold_image_refused(caller, TABLE, above, below((uint32_t)size), PERMISSIONS_REFUSAL_NO_SPACE, size); break;
-    case 2: hold_image_refused(caller, TABLE, above, size, PERMISSIONS_REFUSAL_NUMBERS_USED_UP, size); break;
-    case 3: hold_image_refused(caller, TABLE - 1, caller->number, size, PERMISSIONS_REFUSAL_NO_TABLE, 0); break;
-    default: hold_image_refused(caller, TABLE - 1, above, 0, PERMISSIONS_REFUSAL_NO_TABLE, 0); break;
+    if (one_in(3)) {
+        with->number = number_above(with->number);
+        wanted = PERMISSIONS_REFUSAL_NUMBERS_USED_UP;
     }
+    if (one_in(3)) {
+        with->run = no_run();
+        wanted = PERMISSIONS_REFUSAL_UNKNOWN;
+    }
+    if (one_in(3)) {
+        with->space -= 1 + (one_in(2) ? below((uint32_t)with->space) : 0);
+        wanted = PERMISSIONS_REFUSAL_NO_SPACE;
+    }
+    if (one_in(3)) {
+        with->memory_size--;
+        wanted = PERMISSIONS_REFUSAL_NO_TABLE;
+    }
+    return wanted;
+}
+
+/* A call that must be refused, write nothing, and tell the image's size, if there is a table. */
+static void try_refused_image(const struct caller *caller, size_t image_size)
+{
+    struct image_call with = {TABLE, caller->run, caller->number, image_size};
+    int32_t result, wanted = make_image_refused(&with);
+    size_t size, wanted_size = wanted == PERMISSIONS_REFUSAL_NO_TABLE ? 0 : image_size;
+
+    if (wanted == 0)
+        return;
+    result = call_image(caller, &with, 0, &size);
+    if (result != wanted || size != wanted_size)
+        fault("an image with the run %lu is answered %d with %lu words, not %d with %lu", (unsigned long)with.run, (int)result,
+              (unsigned long)size, (int)wanted, (unsigned long)wanted_size);
+    counts.images_refused[-result]++;
 }
 
 /* The words of a caller's image, and how many: the size is asked for first, then there is room for it and at times for more. */
 static const uint32_t *image_of(const struct caller *caller, size_t *size)
 {
-    size_t space, told;
+    struct image_call with = {TABLE, caller->run, caller->number, 0};
+    size_t told;
 
-    if (call_image(caller, TABLE, caller->number, 0, 0, &space) != PERMISSIONS_REFUSAL_NO_SPACE || space < 2 || space > IMAGE)
+    if (call_image(caller, &with, 0, &told) != PERMISSIONS_REFUSAL_NO_SPACE || told <= NEXT_WORD || told > IMAGE)
         fault("an image does not tell its size with no space");
     if (one_in(4))
-        try_refused_image(caller, space);
-    told = space;
-    space += one_in(2) ? below(IMAGE_EXTRA + 1) : 0;
-    if (call_image(caller, TABLE, caller->number, space, told, size) != 0 || *size != told)
+        try_refused_image(caller, told);
+    with.space = told + (one_in(2) ? below(IMAGE_EXTRA + 1) : 0);
+    if (call_image(caller, &with, told, size) != 0 || *size != told)
         fault("an image of %lu words is refused, or has %lu", (unsigned long)told, (unsigned long)*size);
-    return image_space(space);
+    return image_space(with.space);
 }
 
 void write_image(void)
 {
     static unsigned char memory[TABLE];
-    struct change *change = &history.changes[history.count];
+    struct place *place = &history.places[history.last];
     size_t count;
     const uint32_t *words = image_of(&the_main, &count);
 
-    if (read_image(words, count, memory) != change->table_size || memcmp(memory, change->table, change->table_size) != 0)
+    if (read_image(words, count, memory) != place->table_size || memcmp(memory, place->table, place->table_size) != 0)
         fault("an image does not say the main's table");
-    if (image_number(words) != the_main.number)
-        fault("an image has the number %lu, not %lu", (unsigned long)image_number(words), (unsigned long)the_main.number);
+    if (run_of_words(words) != place->run || number_of_words(words) != place->number)
+        fault("an image has the run %lu and the number %lu, not %lu and %lu", (unsigned long)run_of_words(words),
+              (unsigned long)number_of_words(words), (unsigned long)place->run, (unsigned long)place->number);
     counts.images++;
     if (count > counts.largest_image)
         counts.largest_image = count;
-    if (change->image != NULL)
+    if (place->image != NULL)
         return;
-    change->image_count = count;
-    change->image = malloc(count * sizeof(uint32_t));
-    if (change->image == NULL)
-        fault("no memory is left");
-    memcpy(change->image, words, count * sizeof(uint32_t));
+    place->image_count = count;
+    place->image = copy_of(words, count * sizeof(uint32_t));
 }
 
-/* Whether two callers write the same image. */
+/* Takes the run out of every run word, each of which must have this one, so that what two callers wrote can be compared. */
+static void take_run_out(uint32_t *words, size_t count, uint32_t run)
+{
+    for (size_t i = 0; i < count; i++)
+        if (words[i] >> 28 == RUN_KIND >> 28) {
+            if (words[i] != (RUN_KIND | run))
+                fault("a run word is %08lX in run %lu", (unsigned long)words[i], (unsigned long)run);
+            words[i] = RUN_KIND;
+        }
+}
+
+static void copy_image(const struct caller *caller, uint32_t *copy, size_t *size)
+{
+    const uint32_t *words = image_of(caller, size);
+
+    memcpy(copy, words, *size * sizeof(uint32_t));
+    take_run_out(copy, *size, caller->run);
+}
+
+/* Whether two callers write the same image, but for their runs. */
 static int same_image(const struct caller *one, const struct caller *other)
 {
-    static uint32_t first[IMAGE];
-    size_t first_size, size;
-    const uint32_t *words = image_of(one, &first_size);
+    static uint32_t first[IMAGE], second[IMAGE];
+    size_t first_size, second_size;
 
-    memcpy(first, words, first_size * sizeof(uint32_t));
-    words = image_of(other, &size);
-    return size == first_size && memcmp(first, words, size * sizeof(uint32_t)) == 0;
+    copy_image(one, first, &first_size);
+    copy_image(other, second, &second_size);
+    return first_size == second_size && memcmp(first, second, first_size * sizeof(uint32_t)) == 0;
 }
 
 /* ---- two callers with one table */
@@ -524,6 +704,7 @@ static void take_outcome(struct outcome *out, const struct caller *caller)
     memcpy(out->child, child_end - TABLE, TABLE);
     hold_record_space();
     memcpy(out->records, lent.records, call.records_size * sizeof(uint32_t));
+    take_run_out(out->records, out->records_size, caller->run);
 }
 
 void go_on_alike(struct caller *one, struct caller *other, const struct profile *profile, int times)

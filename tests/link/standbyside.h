@@ -4,6 +4,7 @@
 
 #include "mainside.h"
 #include "paths.h"
+#include "permissions.h"
 
 #include <stddef.h>
 #include <stdint.h>
@@ -12,18 +13,19 @@ enum { MOST_ARRIVALS = 1 << 14 };
 
 struct standby {
     unsigned char *memory;
-    uint64_t last, highest; /* lent with each arrival */
+    struct permissions_standby numbers; /* lent with each arrival */
 };
 
 extern struct standby the_standby;
 
-/* A fresh standby with this number, to which nothing has come. */
-void begin_standby(uint64_t number);
+/* A standby to which nothing has come, with a fresh table and the run and the number of this place of the history, which must have
+ * a fresh table too. */
+void begin_standby(size_t place);
 
 /* A record or an image of the history arrives, and the standby is taken over. */
 void arrive(struct message message, const struct profile *profile);
 
-/* How many of the history's changes the standby must have, by the arrivals so far. */
+/* The place of the history at which the standby must be, by the arrivals so far. */
 size_t reached(void);
 
 #endif

@@ -23,6 +23,21 @@ static int is_resolved(const unsigned char *path, size_t size)
     return 1;
 }
 
+int reads_run(const uint32_t *words, size_t count)
+{
+    return count > RUN_WORD && words[RUN_WORD] >> 28 == RUN_KIND >> 28 && run_of_words(words) != 0;
+}
+
+uint32_t run_of_words(const uint32_t *words)
+{
+    return words[RUN_WORD] & 0xFFFFFFF;
+}
+
+uint32_t number_of_words(const uint32_t *words)
+{
+    return words[NUMBER_WORD] & 0xFFFFFF;
+}
+
 int reads_path(const uint32_t *words, size_t count, unsigned char *path, size_t size)
 {
     size_t needed = (size + 2) / 3;
@@ -49,12 +64,13 @@ size_t read_image(const uint32_t *words, size_t count, unsigned char *memory)
 {
     static const uint32_t mark_of[] = {0, PERMISSIONS_MARK_FLAG_DENIED, PERMISSIONS_MARK_PROMPT_DENIED,
                                        PERMISSIONS_MARK_FLAG_IGNORED};
-    size_t entries, at = 2, used = HEAD_BYTES, sum = 0;
+    size_t entries, at = NEXT_WORD + 1, used = HEAD_BYTES, sum = 0;
     uint32_t marks = 0;
 
-    if (count < 2 || words[0] >> 24 != 0x50 || words[1] >> 17 != 0x60000000u >> 17)
+    if (count <= NEXT_WORD || !reads_run(words, count) || words[NUMBER_WORD] >> 24 != 0x50 ||
+        words[NEXT_WORD] >> 17 != 0x60000000u >> 17)
         return 0;
-    entries = words[1] >> 8 & 0x1FF;
+    entries = words[NEXT_WORD] >> 8 & 0x1FF;
     if (entries > PERMISSIONS_MAX_ENTRIES)
         return 0;
     for (size_t i = 0; i < entries; i++) {
@@ -74,15 +90,10 @@ size_t read_image(const uint32_t *words, size_t count, unsigned char *memory)
         used += ENTRY_BYTES + size;
         at += 1 + (size + 2) / 3;
     }
-    if (at != count || marks != (words[1] >> 5 & 7))
+    if (at != count || marks != (words[NEXT_WORD] >> 5 & 7))
         return 0;
     write_two_bytes(memory, entries);
-    memory[2] = (unsigned char)(words[1] & 31);
+    memory[2] = (unsigned char)(words[NEXT_WORD] & 31);
     memory[3] = (unsigned char)marks;
     return used;
-}
-
-uint32_t image_number(const uint32_t *words)
-{
-    return words[0] & 0xFFFFFF;
 }

@@ -2,6 +2,7 @@
  * -Wl,--wrap, and the variable WRONG says which one it is; 0 is none. */
 #include "permissions.h"
 #include "standbyside.h"
+#include "words.h"
 
 #include <stdlib.h>
 #include <string.h>
@@ -68,7 +69,30 @@ enum {
     SENT_IMAGE_ANYWAY,    /* an image that is refused by 2 is begun */
     SENT_IMAGE_UNTOLD,    /* an image that is refused by 2 does not tell its size */
     SENT_IMAGE_CUT,       /* a number above 24 bits is cut */
-    LAST_WRONG = SENT_IMAGE_CUT
+    HIGHER_SECOND_APPLIED, /* a higher run's change 2 is applied */
+    MOVE_KEEPS_TABLE,     /* a higher run's change 1 is done on the old table */
+    MOVE_KEEPS_NUMBER,    /* it leaves the old n */
+    MOVE_KEEPS_HIGHEST,   /* h is kept from the old run, if it was higher there */
+    MOVE_LOWERS_RUN,      /* the highest run becomes the one moved to, though a higher one was met */
+    LOWER_APPLIED,        /* a lower run's record with the number n + 1 is applied */
+    LOWER_DONE,           /* a lower run's record is done, and answered Repeat */
+    LOWER_HEARD,          /* a lower run's record raises h */
+    EARLY_RUN_UNHEARD,    /* an Early one does not raise the highest run */
+    RUN_ZERO_PASSES,      /* a record of run 0 is not refused */
+    RUNS_CROSSED_PASS,    /* a standby's run above the highest run is not refused */
+    IMAGE_EMPTY_REPEAT,   /* an image of a higher run with the number 0 is answered Repeat */
+    IMAGE_LOWER_TAKEN,    /* a lower run's image is taken */
+    IMAGE_RUN_ZERO_PASSES, /* an image of run 0 is not refused */
+    OWED_ACROSS_RUNS,     /* h - n is owed, though n is of a lower run than h */
+    OWED_CROSSED_PASSES,  /* what is owed is not refused with a run above the highest run */
+    BEGUN_KEEPS_NUMBER,   /* a run begins with the old number */
+    BEGUN_KEEPS_TABLE,    /* a run begins with the old table */
+    BEGUN_ANYWAY,         /* a beginning that is refused takes the number back to 0 */
+    SENT_OTHER_RUN,       /* a revoke's record has the run before */
+    SENT_RUN_ZERO,        /* an insert accepts run 0 */
+    SENT_IMAGE_RUN,       /* an image has the run before */
+    SENT_IMAGE_RUN_ZERO,  /* an image accepts run 0 */
+    LAST_WRONG = SENT_IMAGE_RUN_ZERO
 };
 
 static int wrong(void)
@@ -84,22 +108,45 @@ static int wrong(void)
 
 /* ---- the standby's half */
 
-int32_t __real_permissions_arrive(void *, size_t, uint64_t *, uint64_t *, const uint32_t *, size_t);
-int32_t __wrap_permissions_arrive(void *, size_t, uint64_t *, uint64_t *, const uint32_t *, size_t);
-int32_t __real_permissions_arrive_image(void *, size_t, uint64_t *, uint64_t *, const uint32_t *, size_t);
-int32_t __wrap_permissions_arrive_image(void *, size_t, uint64_t *, uint64_t *, const uint32_t *, size_t);
-int32_t __real_permissions_owed(uint64_t, uint64_t, uint64_t *);
-int32_t __wrap_permissions_owed(uint64_t, uint64_t, uint64_t *);
+int32_t __real_permissions_arrive(void *, size_t, uint64_t *, uint64_t *, uint32_t *, uint32_t *, const uint32_t *, size_t);
+int32_t __wrap_permissions_arrive(void *, size_t, uint64_t *, uint64_t *, uint32_t *, uint32_t *, const uint32_t *, size_t);
+int32_t __real_permissions_arrive_image(void *, size_t, uint64_t *, uint64_t *, uint32_t *, uint32_t *, const uint32_t *, size_t);
+int32_t __wrap_permissions_arrive_image(void *, size_t, uint64_t *, uint64_t *, uint32_t *, uint32_t *, const uint32_t *, size_t);
+int32_t __real_permissions_owed(uint64_t, uint64_t, uint32_t, uint32_t, uint64_t *);
+int32_t __wrap_permissions_owed(uint64_t, uint64_t, uint32_t, uint32_t, uint64_t *);
 
-/* Does the record's act, whatever its number. */
+/* The library's own arrivals, with the numbers lent together. */
+static int32_t arrive_rightly(void *memory, size_t size, struct permissions_standby *numbers, const uint32_t *record,
+                              size_t record_size)
+{
+    return __real_permissions_arrive(memory, size, &numbers->last, &numbers->highest, &numbers->run, &numbers->highest_run, record,
+                                     record_size);
+}
+
+static int32_t image_rightly(void *memory, size_t size, struct permissions_standby *numbers, const uint32_t *image,
+                             size_t image_size)
+{
+    return __real_permissions_arrive_image(memory, size, &numbers->last, &numbers->highest, &numbers->run, &numbers->highest_run,
+                                           image, image_size);
+}
+
+/* Does the record's act, whatever its run and number. */
 static int32_t apply(void *memory, size_t size, const uint32_t *record, size_t record_size)
 {
     uint32_t copy[RECORD];
-    uint64_t last = 0, highest = 0;
+    struct permissions_standby numbers = {0, 0, 1, 1};
 
     memcpy(copy, record, record_size * sizeof(uint32_t));
-    copy[0] = (copy[0] & 0xFF000000) | 1;
-    return __real_permissions_arrive(memory, size, &last, &highest, copy, record_size);
+    copy[RUN_WORD] = RUN_KIND | 1;
+    copy[NUMBER_WORD] = (copy[NUMBER_WORD] & 0xFF000000) | 1;
+    return arrive_rightly(memory, size, &numbers, copy, record_size);
+}
+
+/* The same, or nothing where it is refused. */
+static void apply_if_possible(unsigned char *memory, const unsigned char *before, const uint32_t *record, size_t record_size)
+{
+    if (apply(memory, TABLE, record, record_size) != 0)
+        memcpy(memory, before, TABLE);
 }
 
 /* The same entries and switches, with the entries inserted from the last to the first or from the first to the last. */
@@ -140,235 +187,443 @@ static void keep_tail(unsigned char *memory, const unsigned char *old)
     memory[1] = (unsigned char)count;
 }
 
-/* The numbers that the last image passed over and that have not been done since: above `from`, up to `to`. */
+/* The numbers of a run that its last image passed over and that have not been done since: above `from`, up to `to`. */
 static struct {
+    uint32_t run;
     uint64_t from, to;
 } skipped;
 
-/* What is done with a record of the main's, in place of the arrival; -99 if the arrival is to be made. */
-static int32_t instead(void *memory, uint64_t *last, uint64_t *highest, const uint32_t *record, size_t record_size)
+/* Makes numbers with n above h, which no standby has, into some that one has. */
+static void uncross_numbers(struct permissions_standby *numbers)
 {
-    uint64_t number = record[0] & 0xFFFFFF;
-
-    if (wrong() == EARLY_TO_NEXT && number == *last + 1 && number % 16 == 0)
-        return PERMISSIONS_ARRIVAL_EARLY;
-    if (wrong() == ONE_LEFT_OUT && number == *last + 2 && apply(memory, TABLE, record, record_size) == 0) {
-        *last = *highest = number;
-        return PERMISSIONS_ARRIVAL_APPLIED;
-    }
-    return -99;
+    if (numbers->run == numbers->highest_run && numbers->last > numbers->highest)
+        numbers->highest = numbers->last;
 }
 
-/* What is done behind the arrival of a record of the main's. */
-static void afterwards(unsigned char *memory, const unsigned char *before, uint64_t *last, uint64_t *highest,
-                       uint64_t highest_before, const uint32_t *record, size_t record_size, int32_t result)
+/* The same for a run above the highest run. */
+static void uncross_runs(struct permissions_standby *numbers)
 {
+    if (numbers->run > numbers->highest_run)
+        numbers->highest_run = numbers->run;
+}
+
+/* The arrival of words of run 0, where that is a run like any other: the same with all runs one higher. */
+static int32_t arrive_in_run_zero(int32_t (*arrive)(void *, size_t, struct permissions_standby *, const uint32_t *, size_t),
+                                  void *memory, struct permissions_standby *numbers, const uint32_t *words, size_t count)
+{
+    static uint32_t copy[2 * IMAGE];
+    int32_t result;
+
+    memcpy(copy, words, count * sizeof(uint32_t));
+    copy[RUN_WORD]++;
+    numbers->run++;
+    numbers->highest_run++;
+    result = arrive(memory, TABLE, numbers, copy, count);
+    numbers->run--;
+    numbers->highest_run--;
+    return result;
+}
+
+/* Applies a record as if it was the next one, whatever its run and number; -99 if it is refused. */
+static int32_t apply_as_next(void *memory, struct permissions_standby *numbers, const uint32_t *record, size_t record_size)
+{
+    if (apply(memory, TABLE, record, record_size) != 0)
+        return -99;
+    numbers->last = number_of_words(record);
+    if (numbers->highest < numbers->last)
+        numbers->highest = numbers->last;
+    return PERMISSIONS_ARRIVAL_APPLIED;
+}
+
+/* What is done with a record of the main's, in place of the arrival; -99 if the arrival is to be made. */
+static int32_t instead(void *memory, struct permissions_standby *numbers, const uint32_t *record, size_t record_size)
+{
+    uint32_t run = run_of_words(record);
+    uint64_t number = number_of_words(record);
+    int is_own = run == numbers->run;
+
+    switch (wrong()) {
+    case EARLY_TO_NEXT: return is_own && number == numbers->last + 1 && number % 16 == 0 ? PERMISSIONS_ARRIVAL_EARLY : -99;
+    case ONE_LEFT_OUT: return is_own && number == numbers->last + 2 ? apply_as_next(memory, numbers, record, record_size) : -99;
+    case LOWER_APPLIED:
+        return run < numbers->run && number == numbers->last + 1 ? apply_as_next(memory, numbers, record, record_size) : -99;
+    case HIGHER_SECOND_APPLIED:
+        if (run <= numbers->run || number != 2 || permissions_fresh(memory, TABLE) != 0)
+            return -99;
+        numbers->run = numbers->highest_run = run;
+        return apply_as_next(memory, numbers, record, record_size);
+    default: return -99;
+    }
+}
+
+/* What is done behind the arrival of a record of the standby's own run. */
+static void afterwards_in_run(unsigned char *memory, const unsigned char *before, struct permissions_standby *numbers,
+                              const struct permissions_standby *were, const uint32_t *record, size_t record_size, int32_t result)
+{
+    int is_early = result == PERMISSIONS_ARRIVAL_EARLY, is_repeat = result == PERMISSIONS_ARRIVAL_REPEAT;
+
     switch (wrong()) {
     case COUNTED_ONLY:
-        if (result == PERMISSIONS_ARRIVAL_APPLIED && *last > 1)
+        if (result == PERMISSIONS_ARRIVAL_APPLIED && numbers->last > 1)
             memcpy(memory, before, TABLE);
         break;
-    case INVENTED: *last = *highest; break;
-    case REPEAT_RAISES: *last += result == PERMISSIONS_ARRIVAL_REPEAT && *last < *highest; break;
+    case INVENTED: numbers->last = numbers->highest; break;
+    case REPEAT_RAISES: numbers->last += is_repeat && numbers->last < numbers->highest; break;
     case REPEAT_APPLIED:
-        if (result == PERMISSIONS_ARRIVAL_REPEAT && apply(memory, TABLE, record, record_size) != 0)
-            memcpy(memory, before, TABLE);
+        if (is_repeat)
+            apply_if_possible(memory, before, record, record_size);
         break;
     case EARLY_APPLIED:
-        if (result == PERMISSIONS_ARRIVAL_EARLY && apply(memory, TABLE, record, record_size) != 0)
-            memcpy(memory, before, TABLE);
+        if (is_early)
+            apply_if_possible(memory, before, record, record_size);
         break;
     case EARLY_UNHEARD:
-        if (result == PERMISSIONS_ARRIVAL_EARLY)
-            *highest = highest_before;
+        if (is_early)
+            numbers->highest = were->highest;
         break;
-    case HEARD_TOO_MUCH: *highest += result == PERMISSIONS_ARRIVAL_EARLY && *highest > highest_before; break;
+    case HEARD_TOO_MUCH: numbers->highest += is_early && numbers->highest > were->highest; break;
     case SKIPPED_APPLIED:
-        if (*last >= skipped.to && skipped.from < skipped.to && (record[0] & 0xFFFFFF) == skipped.from + 1 &&
-            apply(memory, TABLE, record, record_size) == 0)
+        if (numbers->run == skipped.run && numbers->last >= skipped.to && skipped.from < skipped.to &&
+            number_of_words(record) == skipped.from + 1 && apply(memory, TABLE, record, record_size) == 0)
             skipped.from++;
         break;
+    default: break;
+    }
+}
+
+/* What is done behind the arrival of a record of another run, which may have become the standby's. */
+static void afterwards_across_runs(unsigned char *memory, const unsigned char *before, struct permissions_standby *numbers,
+                                   const struct permissions_standby *were, const uint32_t *record, size_t record_size)
+{
+    int has_moved = numbers->run > were->run, is_lower = run_of_words(record) < were->run;
+
+    switch (wrong()) {
+    case MOVE_KEEPS_TABLE:
+        if (has_moved) {
+            memcpy(memory, before, TABLE);
+            apply_if_possible(memory, before, record, record_size);
+        }
+        break;
+    case MOVE_KEEPS_NUMBER:
+        if (has_moved && were->run > 0)
+            numbers->last = were->last;
+        break;
+    case MOVE_LOWERS_RUN:
+        if (has_moved && numbers->highest_run > numbers->run) {
+            numbers->highest_run = numbers->run;
+            numbers->highest = numbers->last;
+        }
+        break;
+    case LOWER_DONE:
+        if (is_lower)
+            apply_if_possible(memory, before, record, record_size);
+        break;
+    case LOWER_HEARD:
+        if (is_lower && number_of_words(record) > numbers->highest)
+            numbers->highest = number_of_words(record);
+        break;
+    case EARLY_RUN_UNHEARD:
+        if (!has_moved && numbers->highest_run > were->highest_run)
+            *numbers = *were;
+        break;
+    default: break;
+    }
+}
+
+/* h is kept where a record or an image has raised the highest run. */
+static void keep_highest(struct permissions_standby *numbers, const struct permissions_standby *were)
+{
+    if (numbers->highest_run > were->highest_run && numbers->highest < were->highest)
+        numbers->highest = were->highest;
+}
+
+/* What is done behind the arrival of any record of the main's. */
+static void afterwards(unsigned char *memory, const unsigned char *before, struct permissions_standby *numbers,
+                       const struct permissions_standby *were, const uint32_t *record, size_t record_size, int32_t result)
+{
+    if (run_of_words(record) == were->run)
+        afterwards_in_run(memory, before, numbers, were, record, record_size, result);
+    else
+        afterwards_across_runs(memory, before, numbers, were, record, record_size);
+    switch (wrong()) {
     case OTHER_SEQUENCE: insert_anew(memory, 1); break;
     case SWITCH_LOST: memory[2] &= 15; break;
     case BYTE_BEHIND: memory[TABLE - 1] ^= 1; break;
-    case WORD_BEHIND: (void)*(const volatile uint32_t *)(record + record_size); break;
+    case MOVE_KEEPS_HIGHEST: keep_highest(numbers, were); break;
     default: break;
     }
 }
 
 /* What is done behind the refusal of a damaged record. */
-static int32_t refused(unsigned char *memory, uint64_t *last, uint64_t *highest, int32_t result)
+static int32_t refused(unsigned char *memory, struct permissions_standby *numbers, const uint32_t *record, size_t record_size,
+                       int32_t result)
 {
+    int malformed = result == PERMISSIONS_REFUSAL_MALFORMED_RECORD;
+
     switch (wrong()) {
-    case REFUSED_HEARD: *highest += result == PERMISSIONS_REFUSAL_MALFORMED_RECORD; break;
+    case REFUSED_HEARD: numbers->highest += (uint64_t)malformed; break;
     case REFUSED_CHANGES: memory[2] ^= 1; break;
-    case MALFORMED_PASSES:
-        return result == PERMISSIONS_REFUSAL_MALFORMED_RECORD ? PERMISSIONS_ARRIVAL_REPEAT : result;
+    case MALFORMED_PASSES: return malformed ? PERMISSIONS_ARRIVAL_REPEAT : result;
+    case RUN_ZERO_PASSES:
+        if (malformed && record_size > 0 && record[RUN_WORD] == RUN_KIND)
+            return arrive_in_run_zero(arrive_rightly, memory, numbers, record, record_size);
+        break;
     case FULL_PASSES:
         if (result != PERMISSIONS_REFUSAL_TABLE_FULL)
             break;
-        *highest += *highest == (*last)++;
+        numbers->highest += numbers->highest == numbers->last++;
         return PERMISSIONS_ARRIVAL_APPLIED;
     default: break;
     }
     return result;
 }
 
-int32_t __wrap_permissions_arrive(void *memory, size_t size, uint64_t *last, uint64_t *highest, const uint32_t *record,
-                                  size_t record_size)
+static int32_t arrive_wrongly(void *memory, size_t size, struct permissions_standby *numbers, const uint32_t *record,
+                              size_t record_size)
 {
     static unsigned char before[TABLE];
     int undamaged = memory == the_standby.memory;
-    uint64_t highest_before = *highest;
+    struct permissions_standby were = *numbers;
     int32_t result = -99;
 
     memcpy(before, memory, TABLE);
-    if (wrong() == CROSSED_PASSES && *last > *highest)
-        *highest = *last;
+    if (wrong() == CROSSED_PASSES)
+        uncross_numbers(numbers);
+    if (wrong() == RUNS_CROSSED_PASS)
+        uncross_runs(numbers);
     if (undamaged)
-        result = instead(memory, last, highest, record, record_size);
+        result = instead(memory, numbers, record, record_size);
     if (result != -99)
         return result;
-    result = __real_permissions_arrive(memory, size, last, highest, record, record_size);
+    if (wrong() == WORD_BEHIND)
+        (void)*(const volatile uint32_t *)(record + record_size);
+    result = arrive_rightly(memory, size, numbers, record, record_size);
     if (result < 0)
-        return refused(memory, last, highest, result);
+        return refused(memory, numbers, record, record_size, result);
     if (undamaged)
-        afterwards(memory, before, last, highest, highest_before, record, record_size, result);
+        afterwards(memory, before, numbers, &were, record, record_size, result);
+    return result;
+}
+
+int32_t __wrap_permissions_arrive(void *memory, size_t size, uint64_t *last, uint64_t *highest, uint32_t *run,
+                                  uint32_t *highest_run, const uint32_t *record, size_t record_size)
+{
+    struct permissions_standby numbers = {*last, *highest, *run, *highest_run};
+    int32_t result = arrive_wrongly(memory, size, &numbers, record, record_size);
+
+    *last = numbers.last;
+    *highest = numbers.highest;
+    *run = numbers.run;
+    *highest_run = numbers.highest_run;
+    return result;
+}
+
+/* An image is taken whatever the standby has; h and the highest run stay. */
+static int32_t take_anyway(void *memory, struct permissions_standby *numbers, const uint32_t *image, size_t image_size)
+{
+    struct permissions_standby fresh = {0, 0, 0, 0};
+    int32_t result = image_rightly(memory, TABLE, &fresh, image, image_size);
+
+    numbers->run = fresh.run;
+    numbers->last = fresh.last;
     return result;
 }
 
 /* What is done with an image of the main's, in place of the arrival; -99 if the arrival is to be made. */
-static int32_t image_instead(void *memory, uint64_t *last, const uint64_t *highest, const uint32_t *image, size_t image_size)
+static int32_t image_instead(void *memory, struct permissions_standby *numbers, const uint32_t *image, size_t image_size)
 {
-    uint64_t number = image[0] & 0xFFFFFF, below = 0, heard = number;
+    uint32_t run = run_of_words(image);
+    uint64_t number = number_of_words(image);
+    int is_own = run == numbers->run;
 
-    if (wrong() == IMAGE_NEXT_ONLY && number > *last + 1)
-        return PERMISSIONS_ARRIVAL_EARLY;
-    if (wrong() == IMAGE_BY_HIGHEST && number <= *highest)
-        return PERMISSIONS_ARRIVAL_REPEAT;
-    if (number == 0 || !((wrong() == IMAGE_AGAIN && number == *last) || (wrong() == IMAGE_OLD && number < *last)))
-        return -99;
-    *last = number;
-    return __real_permissions_arrive_image(memory, TABLE, &below, &heard, image, image_size);
+    switch (wrong()) {
+    case IMAGE_NEXT_ONLY: return is_own && number > numbers->last + 1 ? PERMISSIONS_ARRIVAL_EARLY : -99;
+    case IMAGE_BY_HIGHEST:
+        return is_own && run == numbers->highest_run && number <= numbers->highest ? PERMISSIONS_ARRIVAL_REPEAT : -99;
+    case IMAGE_AGAIN: return is_own && number == numbers->last ? take_anyway(memory, numbers, image, image_size) : -99;
+    case IMAGE_OLD: return is_own && number < numbers->last ? take_anyway(memory, numbers, image, image_size) : -99;
+    case IMAGE_EMPTY_REPEAT: return run > numbers->run && number == 0 ? PERMISSIONS_ARRIVAL_REPEAT : -99;
+    case IMAGE_LOWER_TAKEN: return run < numbers->run ? take_anyway(memory, numbers, image, image_size) : -99;
+    default: return -99;
+    }
 }
 
-/* What is done behind an image of the main's that is taken. */
-static void image_afterwards(unsigned char *memory, const unsigned char *before, uint64_t *last, uint64_t *highest,
-                             uint64_t last_before, uint64_t highest_before)
+/* What is done behind an image of the main's that is taken, of the standby's own run or of a higher one. */
+static void image_afterwards(unsigned char *memory, const unsigned char *before, struct permissions_standby *numbers,
+                             const struct permissions_standby *were)
 {
+    int is_own = numbers->run == were->run;
+
     switch (wrong()) {
     case IMAGE_TAIL_KEPT: keep_tail(memory, before); break;
-    case IMAGE_UNHEARD: *highest = highest_before; break;
-    case IMAGE_UNHEARS: *highest = *last; break;
+    case IMAGE_UNHEARD:
+        if (is_own)
+            numbers->highest = were->highest;
+        break;
+    case IMAGE_UNHEARS: numbers->highest = numbers->last; break;
     case IMAGE_COUNTED_ONLY: memcpy(memory, before, TABLE); break;
-    case IMAGE_UNCOUNTED: *last = last_before; break;
+    case IMAGE_UNCOUNTED:
+        if (is_own)
+            numbers->last = were->last;
+        break;
     case IMAGE_INSERTED: insert_anew(memory, 0); break;
+    case MOVE_KEEPS_HIGHEST: keep_highest(numbers, were); break;
     case IMAGE_CLEARS:
         if (permissions_used(memory, TABLE) < TABLE)
             memory[permissions_used(memory, TABLE)] = 0;
         break;
     case SKIPPED_APPLIED:
-        skipped.from = last_before;
-        skipped.to = *last;
+        skipped.run = numbers->run;
+        skipped.from = is_own ? were->last : 0;
+        skipped.to = numbers->last;
         break;
     default: break;
     }
 }
 
 /* The arrival of an image that is altered first, so that it is no longer refused; the real answer if it still is. */
-static int32_t arrive_altered(unsigned char *memory, uint64_t *last, uint64_t *highest, const uint32_t *image, size_t image_size)
+static int32_t arrive_altered(unsigned char *memory, struct permissions_standby *numbers, const uint32_t *image, size_t image_size)
 {
     static uint32_t copy[IMAGE];
     uint32_t marks;
     int32_t result = PERMISSIONS_REFUSAL_MALFORMED_IMAGE;
 
-    if (image_size < 2 || image_size > IMAGE)
+    if (image_size <= NEXT_WORD || image_size > IMAGE)
         return result;
     memcpy(copy, image, image_size * sizeof(uint32_t));
     if (wrong() == IMAGE_LEFT_OVER)
-        return __real_permissions_arrive_image(memory, TABLE, last, highest, copy, image_size - 1);
+        return image_rightly(memory, TABLE, numbers, copy, image_size - 1);
     for (marks = 0; marks < 8 && result == PERMISSIONS_REFUSAL_MALFORMED_IMAGE; marks++) {
-        copy[1] = (image[1] & ~UINT32_C(0xE0)) | marks << 5;
-        result = __real_permissions_arrive_image(memory, TABLE, last, highest, copy, image_size);
+        copy[NEXT_WORD] = (image[NEXT_WORD] & ~UINT32_C(0xE0)) | marks << 5;
+        result = image_rightly(memory, TABLE, numbers, copy, image_size);
     }
     return result;
 }
 
 /* What is done behind the refusal of a damaged image. */
-static int32_t image_refused(unsigned char *memory, uint64_t *last, uint64_t *highest, const uint32_t *image, size_t image_size,
+static int32_t image_refused(unsigned char *memory, struct permissions_standby *numbers, const uint32_t *image, size_t image_size,
                              int32_t result)
 {
     int malformed = result == PERMISSIONS_REFUSAL_MALFORMED_IMAGE;
 
     switch (wrong()) {
-    case IMAGE_REFUSED_HEARD: *highest += (uint64_t)malformed; break;
+    case IMAGE_REFUSED_HEARD: numbers->highest += (uint64_t)malformed; break;
     case IMAGE_REFUSED_CHANGES: memory[2] ^= 1; break;
     case IMAGE_MALFORMED_PASSES: return malformed ? PERMISSIONS_ARRIVAL_REPEAT : result;
     case IMAGE_MARKS_PASS: case IMAGE_LEFT_OVER:
-        return malformed ? arrive_altered(memory, last, highest, image, image_size) : result;
+        return malformed ? arrive_altered(memory, numbers, image, image_size) : result;
+    case IMAGE_RUN_ZERO_PASSES:
+        if (malformed && image_size > 0 && image[RUN_WORD] == RUN_KIND)
+            return arrive_in_run_zero(image_rightly, memory, numbers, image, image_size);
+        break;
     default: break;
     }
     return result;
 }
 
-int32_t __wrap_permissions_arrive_image(void *memory, size_t size, uint64_t *last, uint64_t *highest, const uint32_t *image,
-                                        size_t image_size)
+static int32_t arrive_image_wrongly(void *memory, size_t size, struct permissions_standby *numbers, const uint32_t *image,
+                                    size_t image_size)
 {
     static unsigned char before[TABLE];
     int undamaged = memory == the_standby.memory;
-    uint64_t last_before = *last, highest_before = *highest;
+    struct permissions_standby were = *numbers;
     int32_t result = -99;
 
     memcpy(before, memory, TABLE);
-    if (wrong() == IMAGE_CROSSED_PASSES && *last > *highest)
-        *highest = *last;
+    if (wrong() == IMAGE_CROSSED_PASSES)
+        uncross_numbers(numbers);
     if (undamaged)
-        result = image_instead(memory, last, highest, image, image_size);
+        result = image_instead(memory, numbers, image, image_size);
     if (result != -99)
         return result;
     if (wrong() == IMAGE_WORD_BEHIND)
         (void)*(const volatile uint32_t *)(image + image_size);
-    result = __real_permissions_arrive_image(memory, size, last, highest, image, image_size);
+    result = image_rightly(memory, size, numbers, image, image_size);
     if (result < 0)
-        return image_refused(memory, last, highest, image, image_size, result);
+        return image_refused(memory, numbers, image, image_size, result);
     if (undamaged && result == PERMISSIONS_ARRIVAL_TAKEN)
-        image_afterwards(memory, before, last, highest, last_before, highest_before);
+        image_afterwards(memory, before, numbers, &were);
     return result;
 }
 
-int32_t __wrap_permissions_owed(uint64_t last, uint64_t highest, uint64_t *owed)
+int32_t __wrap_permissions_arrive_image(void *memory, size_t size, uint64_t *last, uint64_t *highest, uint32_t *run,
+                                        uint32_t *highest_run, const uint32_t *image, size_t image_size)
 {
-    int32_t result = __real_permissions_owed(last, highest, owed);
+    struct permissions_standby numbers = {*last, *highest, *run, *highest_run};
+    int32_t result = arrive_image_wrongly(memory, size, &numbers, image, image_size);
 
+    *last = numbers.last;
+    *highest = numbers.highest;
+    *run = numbers.run;
+    *highest_run = numbers.highest_run;
+    return result;
+}
+
+/* What is owed by the standby itself; with other numbers it is right. */
+static uint64_t owed_wrongly(const struct permissions_standby *numbers, uint64_t owed)
+{
     switch (wrong()) {
-    case NONE_OWED: *owed = 0; break;
-    case ONE_OWED: *owed = 1; break;
-    case TOO_MUCH_OWED: *owed = highest == last ? 0 : highest - last + 1; break;
-    case ONE_LESS_OWED: *owed = highest == last ? 0 : highest - last - 1; break;
-    case HIGHEST_OWED: *owed = highest == last ? 0 : highest; break;
-    case LAST_OWED: *owed = highest == last ? 0 : last; break;
-    case SOME_OWED: *owed = highest == last ? 0 : 1; break;
-    default: break;
+    case NONE_OWED: return 0;
+    case ONE_OWED: return 1;
+    case TOO_MUCH_OWED: return owed > 0 ? owed + 1 : 0;
+    case ONE_LESS_OWED: return owed > 0 ? owed - 1 : 0;
+    case HIGHEST_OWED: return owed > 0 ? numbers->highest : 0;
+    case LAST_OWED: return owed > 0 ? numbers->last : 0;
+    case SOME_OWED: return owed > 0;
+    case OWED_ACROSS_RUNS: return numbers->highest - numbers->last;
+    default: return owed;
     }
+}
+
+int32_t __wrap_permissions_owed(uint64_t last, uint64_t highest, uint32_t run, uint32_t highest_run, uint64_t *owed)
+{
+    struct permissions_standby numbers = {last, highest, run, highest_run};
+    int32_t result;
+
+    if (wrong() == OWED_CROSSED_PASSES)
+        uncross_runs(&numbers);
+    result = __real_permissions_owed(numbers.last, numbers.highest, numbers.run, numbers.highest_run, owed);
+    if (last == the_standby.numbers.last && highest == the_standby.numbers.highest && run == the_standby.numbers.run &&
+        highest_run == the_standby.numbers.highest_run)
+        *owed = owed_wrongly(&numbers, *owed);
     return result;
 }
 
 /* ---- the main's half */
 
-int32_t __real_permissions_linked_insert(void *, size_t, uint64_t *, uint32_t, const void *, size_t, const void *, size_t,
+int32_t __real_permissions_begin_run(void *, size_t, uint32_t, uint64_t *);
+int32_t __wrap_permissions_begin_run(void *, size_t, uint32_t, uint64_t *);
+int32_t __real_permissions_linked_insert(void *, size_t, uint32_t, uint64_t *, uint32_t, const void *, size_t, const void *, size_t,
                                          uint32_t *, size_t, size_t *);
-int32_t __wrap_permissions_linked_insert(void *, size_t, uint64_t *, uint32_t, const void *, size_t, const void *, size_t,
+int32_t __wrap_permissions_linked_insert(void *, size_t, uint32_t, uint64_t *, uint32_t, const void *, size_t, const void *, size_t,
                                          uint32_t *, size_t, size_t *);
-int32_t __real_permissions_linked_revoke(void *, size_t, uint64_t *, const void *, size_t, const void *, size_t, uint32_t *,
-                                         size_t, size_t *);
-int32_t __wrap_permissions_linked_revoke(void *, size_t, uint64_t *, const void *, size_t, const void *, size_t, uint32_t *,
-                                         size_t, size_t *);
-int32_t __real_permissions_linked_child(void *, size_t, uint64_t *, void *, size_t, uint32_t, const void *, size_t,
+int32_t __real_permissions_linked_revoke(void *, size_t, uint32_t, uint64_t *, const void *, size_t, const void *, size_t,
+                                         uint32_t *, size_t, size_t *);
+int32_t __wrap_permissions_linked_revoke(void *, size_t, uint32_t, uint64_t *, const void *, size_t, const void *, size_t,
+                                         uint32_t *, size_t, size_t *);
+int32_t __real_permissions_linked_child(void *, size_t, uint32_t, uint64_t *, void *, size_t, uint32_t, const void *, size_t,
                                         const uint32_t *, size_t, const uint32_t *, size_t, const void *, size_t, uint32_t *,
                                         size_t, uint32_t *, size_t *);
-int32_t __wrap_permissions_linked_child(void *, size_t, uint64_t *, void *, size_t, uint32_t, const void *, size_t,
+int32_t __wrap_permissions_linked_child(void *, size_t, uint32_t, uint64_t *, void *, size_t, uint32_t, const void *, size_t,
                                         const uint32_t *, size_t, const uint32_t *, size_t, const void *, size_t, uint32_t *,
                                         size_t, uint32_t *, size_t *);
+
+int32_t __wrap_permissions_begin_run(void *memory, size_t size, uint32_t run, uint64_t *number)
+{
+    static unsigned char before[TABLE];
+    uint64_t old = *number;
+    int32_t result;
+
+    memcpy(before, memory, size);
+    result = __real_permissions_begin_run(memory, size, run, number);
+    if (result == 0 && wrong() == BEGUN_KEEPS_NUMBER)
+        *number = old;
+    if (result == 0 && wrong() == BEGUN_KEEPS_TABLE && permissions_used(before, TABLE) > 0)
+        memcpy(memory, before, TABLE);
+    if (result != 0 && wrong() == BEGUN_ANYWAY)
+        *number = 0;
+    return result;
+}
 
 /* Takes the words from a place on back, as if they had not been written. */
 static void unwrite(uint32_t *records, size_t from, size_t *records_size)
@@ -377,52 +632,63 @@ static void unwrite(uint32_t *records, size_t from, size_t *records_size)
     *records_size = from;
 }
 
-int32_t __wrap_permissions_linked_insert(void *memory, size_t size, uint64_t *number, uint32_t kind, const void *path,
-                                         size_t path_size, const void *directory, size_t directory_size, uint32_t *records,
-                                         size_t space, size_t *records_size)
+/* Run 0 is accepted, and written. */
+static uint32_t accepted(uint32_t run, int zero_passes)
 {
-    int32_t result = __real_permissions_linked_insert(memory, size, number, kind, path, path_size, directory, directory_size,
-                                                      records, space, records_size);
+    return run == 0 && zero_passes ? 1 : run;
+}
+
+int32_t __wrap_permissions_linked_insert(void *memory, size_t size, uint32_t run, uint64_t *number, uint32_t kind,
+                                         const void *path, size_t path_size, const void *directory, size_t directory_size,
+                                         uint32_t *records, size_t space, size_t *records_size)
+{
+    int32_t result = __real_permissions_linked_insert(memory, size, accepted(run, wrong() == SENT_RUN_ZERO), number, kind, path,
+                                                      path_size, directory, directory_size, records, space, records_size);
 
     if (result != 0)
         return result;
     switch (wrong()) {
-    case SENT_OTHER_KIND: records[0] = (records[0] & 0xF0FFFFFF) | ((records[0] >> 24 & 3) + 1) << 24; break;
+    case SENT_OTHER_KIND:
+        records[NUMBER_WORD] = (records[NUMBER_WORD] & 0xF0FFFFFF) | ((records[NUMBER_WORD] >> 24 & 3) + 1) << 24;
+        break;
     case SENT_NOTHING: unwrite(records, 0, records_size); break;
     case SENT_UNNUMBERED: --*number; break;
     case SENT_BEHIND: records[*records_size < space ? *records_size : 0] = 0; break;
+    case SENT_RUN_ZERO: records[RUN_WORD] = RUN_KIND | run; break;
     default: break;
     }
     return result;
 }
 
-int32_t __wrap_permissions_linked_revoke(void *memory, size_t size, uint64_t *number, const void *path, size_t path_size,
-                                         const void *directory, size_t directory_size, uint32_t *records, size_t space,
-                                         size_t *records_size)
+int32_t __wrap_permissions_linked_revoke(void *memory, size_t size, uint32_t run, uint64_t *number, const void *path,
+                                         size_t path_size, const void *directory, size_t directory_size, uint32_t *records,
+                                         size_t space, size_t *records_size)
 {
-    int32_t result = __real_permissions_linked_revoke(memory, size, number, path, path_size, directory, directory_size, records,
-                                                      space, records_size);
+    int32_t result = __real_permissions_linked_revoke(memory, size, run, number, path, path_size, directory, directory_size,
+                                                      records, space, records_size);
 
     if (result >= 0 && wrong() == SENT_SAME_NUMBER)
-        records[0]--;
+        records[NUMBER_WORD]--;
+    if (result >= 0 && wrong() == SENT_OTHER_RUN)
+        records[RUN_WORD]--;
     return result;
 }
 
-int32_t __wrap_permissions_linked_child(void *parent, size_t parent_size, uint64_t *number, void *child, size_t child_size,
-                                        uint32_t code, const void *items, size_t items_size, const uint32_t *ends,
-                                        size_t ends_count, const uint32_t *answers, size_t answers_count, const void *directory,
-                                        size_t directory_size, uint32_t *records, size_t space, uint32_t *asked,
-                                        size_t *records_size)
+int32_t __wrap_permissions_linked_child(void *parent, size_t parent_size, uint32_t run, uint64_t *number, void *child,
+                                        size_t child_size, uint32_t code, const void *items, size_t items_size,
+                                        const uint32_t *ends, size_t ends_count, const uint32_t *answers, size_t answers_count,
+                                        const void *directory, size_t directory_size, uint32_t *records, size_t space,
+                                        uint32_t *asked, size_t *records_size)
 {
-    int32_t result = __real_permissions_linked_child(parent, parent_size, number, child, child_size, code, items, items_size,
+    int32_t result = __real_permissions_linked_child(parent, parent_size, run, number, child, child_size, code, items, items_size,
                                                      ends, ends_count, answers, answers_count, directory, directory_size,
                                                      records, space, asked, records_size);
-    size_t head = *records_size;
+    size_t front = *records_size;
 
     if (*records_size > 0 && wrong() == CHILD_LAST_UNSENT) {
-        while (records[--head] >> 28 != 1)
+        while (records[--front] >> 28 != RUN_KIND >> 28)
             ;
-        unwrite(records, head, records_size);
+        unwrite(records, front, records_size);
         --*number;
     }
     if (*records_size > 0 && result < 0 && wrong() == CHILD_REFUSED_UNSENT)
@@ -430,44 +696,47 @@ int32_t __wrap_permissions_linked_child(void *parent, size_t parent_size, uint64
     return result;
 }
 
-int32_t __real_permissions_linked_image(const void *, size_t, uint64_t, uint32_t *, size_t, size_t *);
-int32_t __wrap_permissions_linked_image(const void *, size_t, uint64_t, uint32_t *, size_t, size_t *);
+int32_t __real_permissions_linked_image(const void *, size_t, uint32_t, uint64_t, uint32_t *, size_t, size_t *);
+int32_t __wrap_permissions_linked_image(const void *, size_t, uint32_t, uint64_t, uint32_t *, size_t, size_t *);
 
 /* Brings the last entry of an image to the front. */
 static void put_last_first(uint32_t *image, size_t image_size)
 {
     static uint32_t last[RECORD];
-    size_t at = image_size;
+    size_t at = image_size, first = NEXT_WORD + 1;
 
-    if (at == 2)
+    if (at == first)
         return;
     while (image[--at] >> 28 != 7)
         ;
     memcpy(last, image + at, (image_size - at) * sizeof(uint32_t));
-    memmove(image + 2 + image_size - at, image + 2, (at - 2) * sizeof(uint32_t));
-    memcpy(image + 2, last, (image_size - at) * sizeof(uint32_t));
+    memmove(image + first + image_size - at, image + first, (at - first) * sizeof(uint32_t));
+    memcpy(image + first, last, (image_size - at) * sizeof(uint32_t));
 }
 
-int32_t __wrap_permissions_linked_image(const void *memory, size_t size, uint64_t number, uint32_t *image, size_t space,
-                                        size_t *image_size)
+int32_t __wrap_permissions_linked_image(const void *memory, size_t size, uint32_t run, uint64_t number, uint32_t *image,
+                                        size_t space, size_t *image_size)
 {
-    int32_t result = __real_permissions_linked_image(memory, size, wrong() == SENT_IMAGE_CUT ? number & 0xFFFFFF : number, image,
-                                                     space, image_size);
+    int32_t result = __real_permissions_linked_image(memory, size, accepted(run, wrong() == SENT_IMAGE_RUN_ZERO),
+                                                     wrong() == SENT_IMAGE_CUT ? number & 0xFFFFFF : number, image, space,
+                                                     image_size);
 
     if (result == PERMISSIONS_REFUSAL_NO_SPACE && wrong() == SENT_IMAGE_ANYWAY && space > 0)
-        image[0] = 0x50000000 | (uint32_t)(number & 0xFFFFFF);
+        image[RUN_WORD] = RUN_KIND | run;
     if (result == PERMISSIONS_REFUSAL_NO_SPACE && wrong() == SENT_IMAGE_UNTOLD && space > 0)
         *image_size = 0;
     if (result != 0)
         return result;
     switch (wrong()) {
-    case SENT_IMAGE_NUMBER: image[0] -= number > 0; break;
+    case SENT_IMAGE_NUMBER: image[NUMBER_WORD] -= number > 0; break;
     case SENT_IMAGE_SEQUENCE: put_last_first(image, *image_size); break;
-    case SENT_IMAGE_SWITCHES: image[1] &= ~UINT32_C(31); break;
+    case SENT_IMAGE_SWITCHES: image[NEXT_WORD] &= ~UINT32_C(31); break;
     case SENT_IMAGE_BEHIND:
         if (*image_size < space)
             image[*image_size] = 0;
         break;
+    case SENT_IMAGE_RUN: image[RUN_WORD]--; break;
+    case SENT_IMAGE_RUN_ZERO: image[RUN_WORD] = RUN_KIND | run; break;
     default: break;
     }
     return result;

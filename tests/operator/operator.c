@@ -6,9 +6,10 @@
  * mode partial gives neither Granted nor GrantedPartial. A script then makes random query, check, request and revoke calls, plain and
  * linked, with a path and without, some of them refused. Where a call would ask, the operator never answers Allow for a prefix of the path
  * or with no path, and never AllowAll; where it would not, any answer is handed in. After each call the path must be as shut as before, and
- * a path that was asked about and allowed must be open. Every area that is lent ends at a page that can neither be read nor written.
+ * a path that was asked about and allowed must be open. A linked call with a number that no run has must be refused by 3 and change
+ * nothing. Every area that is lent ends at a page that can neither be read nor written.
  *
- * WRONG, 1 to 10, makes one thing wrong, which must be noticed: 1 to 5 the calls, 6 to 10 the operator, or someone beside the script.
+ * WRONG, 1 to 11, makes one thing wrong, which must be noticed: 1 to 5 and 11 the calls, 6 to 10 the operator, or someone beside the script.
  *
  * Exit status: 0; 1 a fault, with the call and the seed; 2 wrong usage; 3 there is no such WRONG. */
 #include "areas.h"
@@ -32,10 +33,12 @@ enum wrong {
     ALLOWS_ALL,       /* AllowAll */
     OTHERS_INSERT,    /* someone inserts entries directly */
     OTHERS_SWITCH,    /* someone sets switches */
+    TAKES_NO_RUN,     /* a number that no run has is taken for another */
     WRONGS
 };
 
-static unsigned long seed = 1, calls, limit = 1000000, runs, asked_count, allowed_count, unasked_yes, refused_count, linked_count;
+static unsigned long seed = 1, calls, limit = 1000000, runs, asked_count, allowed_count, unasked_yes, refused_count, linked_count,
+    no_run_count;
 static enum wrong wrong;
 static unsigned char *table;
 static char *text;
@@ -211,18 +214,86 @@ static int32_t look(enum call call, const struct given *g, int all)
                                                                                g->directory_size, text, PERMISSIONS_TEXT_BYTES, &size);
 }
 
+/* What a linked call is handed: the run, and lent, the main's number and the room for a record. */
+struct link {
+    uint32_t run;
+    uint64_t number;
+    size_t room, written;
+};
+
+static int is_run(uint32_t run)
+{
+    return run >= 1 && run <= PERMISSIONS_MAX_RUN;
+}
+
+/* Mostly some run; else a number that none has. */
+static uint32_t any_run(void)
+{
+    static const uint32_t none[] = {0, PERMISSIONS_MAX_RUN + 1u, UINT32_MAX};
+    static const uint32_t ends[] = {1, PERMISSIONS_MAX_RUN};
+
+    if (percent(5))
+        return none[below(3)];
+    return percent(20) ? ends[below(2)] : 1 + below(PERMISSIONS_MAX_RUN);
+}
+
+static int32_t make_ask(enum call call, const struct given *g, int all, uint32_t answer, struct link *link, uint32_t *asked)
+{
+    size_t size;
+
+    if (all)
+        return (call == CHECK ? permissions_linked_check_all : permissions_linked_request_all)(table, PERMISSIONS_TABLE_BYTES, link->run, &link->number, answer, text,
+                                                                                               PERMISSIONS_TEXT_BYTES, records, link->room, asked, &size,
+                                                                                               &link->written);
+    return (call == CHECK ? permissions_linked_check : permissions_linked_request)(table, PERMISSIONS_TABLE_BYTES, link->run, &link->number, g->path, g->size,
+                                                                                   g->directory, g->directory_size, answer, text, PERMISSIONS_TEXT_BYTES, records,
+                                                                                   link->room, asked, &size, &link->written);
+}
+
+static int32_t make_revoke(const struct given *g, int all, struct link *link)
+{
+    if (all)
+        return permissions_linked_revoke_all(table, PERMISSIONS_TABLE_BYTES, link->run, &link->number, records, link->room, &link->written);
+    return permissions_linked_revoke(table, PERMISSIONS_TABLE_BYTES, link->run, &link->number, g->path, g->size, g->directory, g->directory_size, records, link->room,
+                                     &link->written);
+}
+
+/* A linked check, request or revoke. Where no run has the number handed in, it must be refused, by 3 or the one cause before it, and change nothing. */
+static int32_t make_linked(enum call call, const struct given *g, int all, uint32_t answer, uint32_t *asked)
+{
+    static unsigned char before[PERMISSIONS_TABLE_BYTES];
+    uint32_t run = any_run();
+    uint64_t number = percent(90) ? 7 : 16777215;
+    size_t room = percent(95) ? PERMISSIONS_RECORD_WORDS : PERMISSIONS_RECORD_WORDS - 1;
+    struct link link = {run, number, room, 0};
+    int no_run = !is_run(run);
+    int32_t result;
+
+    linked_count++;
+    if (no_run) {
+        no_run_count++;
+        memcpy(before, table, PERMISSIONS_TABLE_BYTES);
+        text[0] = '.';
+        records[0] = 0;
+        if (wrong == TAKES_NO_RUN)
+            link.run = 1;
+    }
+    result = call == REVOKE ? make_revoke(g, all, &link) : make_ask(call, g, all, answer, &link, asked);
+    if (no_run) {
+        if (result != (room < PERMISSIONS_RECORD_WORDS ? PERMISSIONS_REFUSAL_NO_SPACE : PERMISSIONS_REFUSAL_UNKNOWN))
+            fault("a number that no run has is not refused by 3");
+        if (memcmp(before, table, PERMISSIONS_TABLE_BYTES) != 0 || link.number != number || link.written != 0 || text[0] != '.' || records[0] != 0)
+            fault("a number that no run has changed something");
+    }
+    return result;
+}
+
 static int32_t ask(enum call call, const struct given *g, int all, uint32_t answer, int linked, uint32_t *asked)
 {
-    uint64_t number = percent(90) ? 7 : 16777215;
-    size_t size, written, room = percent(95) ? PERMISSIONS_RECORD_WORDS : PERMISSIONS_RECORD_WORDS - 1;
+    size_t size;
 
-    if (linked && all)
-        return (call == CHECK ? permissions_linked_check_all : permissions_linked_request_all)(
-            table, PERMISSIONS_TABLE_BYTES, &number, answer, text, PERMISSIONS_TEXT_BYTES, records, room, asked, &size, &written);
     if (linked)
-        return (call == CHECK ? permissions_linked_check : permissions_linked_request)(table, PERMISSIONS_TABLE_BYTES, &number, g->path, g->size, g->directory,
-                                                                                       g->directory_size, answer, text, PERMISSIONS_TEXT_BYTES, records, room,
-                                                                                       asked, &size, &written);
+        return make_linked(call, g, all, answer, asked);
     if (all)
         return (call == CHECK ? permissions_check_all : permissions_request_all)(table, PERMISSIONS_TABLE_BYTES, answer, text, PERMISSIONS_TEXT_BYTES, asked, &size);
     return (call == CHECK ? permissions_check : permissions_request)(table, PERMISSIONS_TABLE_BYTES, g->path, g->size, g->directory, g->directory_size, answer, text,
@@ -231,14 +302,8 @@ static int32_t ask(enum call call, const struct given *g, int all, uint32_t answ
 
 static int32_t revoke(const struct given *g, int all, int linked)
 {
-    uint64_t number = 7;
-    size_t written;
-
-    if (linked && all)
-        return permissions_linked_revoke_all(table, PERMISSIONS_TABLE_BYTES, &number, records, PERMISSIONS_RECORD_WORDS, &written);
     if (linked)
-        return permissions_linked_revoke(table, PERMISSIONS_TABLE_BYTES, &number, g->path, g->size, g->directory, g->directory_size, records, PERMISSIONS_RECORD_WORDS,
-                                         &written);
+        return make_linked(REVOKE, g, all, PERMISSIONS_ANSWER_DENY, NULL);
     if (all)
         return permissions_revoke_all(table, PERMISSIONS_TABLE_BYTES);
     return permissions_revoke(table, PERMISSIONS_TABLE_BYTES, g->path, g->size, g->directory, g->directory_size);
@@ -277,7 +342,6 @@ static void ask_once(enum call call, const struct path *shut, const struct path 
     if (wrong == ANSWERS_UNASKED && call == REQUEST && !all && before == PERMISSIONS_STATE_PROMPT && !would && answer == PERMISSIONS_ANSWER_ALLOW)
         result = insert_granted(path) < 0 ? result : PERMISSIONS_STATE_GRANTED;
 
-    linked_count += (unsigned long)linked;
     refused_count += result < 0;
     if (result < 0 && asked)
         fault("a refused call says that it asked");
@@ -366,7 +430,8 @@ int main(int count, char **words)
             call_once(&shut);
         }
     }
-    printf("operator: %lu calls in %lu runs, seed %lu: %lu linked, %lu refused, asked %lu times, %lu paths allowed, %lu yeses to nobody's question; no path that was shut is open\n",
-           calls, runs, seed, linked_count, refused_count, asked_count, allowed_count, unasked_yes);
+    printf("operator: %lu calls in %lu runs, seed %lu: %lu linked, %lu with a number that no run has, %lu refused, asked %lu times, %lu paths allowed, %lu yeses to "
+           "nobody's question; no path that was shut is open\n",
+           calls, runs, seed, linked_count, no_run_count, refused_count, asked_count, allowed_count, unasked_yes);
     return 0;
 }

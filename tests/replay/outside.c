@@ -55,20 +55,20 @@ int32_t __wrap_permissions_child(void *parent, size_t parent_size, void *child, 
                                     answers, answers_count, directory, directory_size, asked);
 }
 
-int32_t __real_permissions_linked_child(void *parent, size_t parent_size, uint64_t *number, void *child,
+int32_t __real_permissions_linked_child(void *parent, size_t parent_size, uint32_t run, uint64_t *number, void *child,
                                         size_t child_size, uint32_t code, const void *items, size_t items_size,
                                         const uint32_t *ends, size_t ends_count, const uint32_t *answers,
                                         size_t answers_count, const void *directory, size_t directory_size,
                                         uint32_t *records, size_t records_space, uint32_t *asked,
                                         size_t *records_size);
-int32_t __wrap_permissions_linked_child(void *parent, size_t parent_size, uint64_t *number, void *child,
+int32_t __wrap_permissions_linked_child(void *parent, size_t parent_size, uint32_t run, uint64_t *number, void *child,
                                         size_t child_size, uint32_t code, const void *items, size_t items_size,
                                         const uint32_t *ends, size_t ends_count, const uint32_t *answers,
                                         size_t answers_count, const void *directory, size_t directory_size,
                                         uint32_t *records, size_t records_space, uint32_t *asked,
                                         size_t *records_size);
 
-int32_t __wrap_permissions_linked_child(void *parent, size_t parent_size, uint64_t *number, void *child,
+int32_t __wrap_permissions_linked_child(void *parent, size_t parent_size, uint32_t run, uint64_t *number, void *child,
                                         size_t child_size, uint32_t code, const void *items, size_t items_size,
                                         const uint32_t *ends, size_t ends_count, const uint32_t *answers,
                                         size_t answers_count, const void *directory, size_t directory_size,
@@ -76,7 +76,7 @@ int32_t __wrap_permissions_linked_child(void *parent, size_t parent_size, uint64
                                         size_t *records_size)
 {
     read_behind("records", records, records_space * sizeof *records);
-    return __real_permissions_linked_child(parent, parent_size, number, child, child_size, code, items, items_size, ends,
-                                           ends_count, answers, answers_count, directory, directory_size, records,
+    return __real_permissions_linked_child(parent, parent_size, run, number, child, child_size, code, items, items_size,
+                                           ends, ends_count, answers, answers_count, directory, directory_size, records,
                                            records_space, asked, records_size);
 }

@@ -203,10 +203,11 @@ static bool is_dash_next(const struct line *line)
 struct replay {
     struct area table, child, standby;
     struct area path, directory, text, items, ends, answers, records, words;
-    bool is_linked;         /* whether calls are the linked ones */
-    uint64_t number;        /* the main's */
-    uint64_t last, highest; /* the standby's */
-    uint32_t state, prompt; /* of the permission without a path */
+    bool is_linked;                   /* whether calls are the linked ones */
+    uint32_t run;                     /* what the linked calls hand in */
+    uint64_t number;                  /* the main's */
+    struct permissions_standby kept;  /* the standby's numbers */
+    uint32_t state, prompt;           /* of the permission without a path */
 };
 
 static unsigned char *table_of(struct area *area)
@@ -471,9 +472,9 @@ static void print_table(const unsigned char *memory)
 static void print_numbers(const struct replay *replay)
 {
     uint64_t owed;
-    int32_t result = permissions_owed(replay->last, replay->highest, &owed);
+    int32_t result = permissions_standby_owed(&replay->kept, &owed);
 
-    printf(" changes %" PRIu64 " owed ", replay->last);
+    printf(" changes %" PRIu64 " owed ", replay->kept.last);
     if (result < 0)
         printf("refused%d", (int)-result);
     else
@@ -505,8 +506,9 @@ static bool call_insert(struct replay *replay, struct line *line)
         || !take_lent(line, &replay->directory, &directory) || !is_over(line))
         return false;
     if (replay->is_linked)
-        print_done(permissions_linked_insert(table, PERMISSIONS_TABLE_BYTES, &replay->number, kind, path.start, path.size,
-                                             directory.start, directory.size, sent.words, sent.space, &sent.size));
+        print_done(permissions_linked_insert(table, PERMISSIONS_TABLE_BYTES, replay->run, &replay->number, kind, path.start,
+                                             path.size, directory.start, directory.size, sent.words, sent.space,
+                                             &sent.size));
     else
         print_done(permissions_insert(table, PERMISSIONS_TABLE_BYTES, kind, path.start, path.size, directory.start,
                                       directory.size));
@@ -523,8 +525,8 @@ static bool call_switches(struct replay *replay, struct line *line)
     if (!take_number(line, &switches) || !is_over(line))
         return false;
     if (replay->is_linked)
-        print_done(permissions_linked_switches(table, PERMISSIONS_TABLE_BYTES, &replay->number, switches, sent.words,
-                                               sent.space, &sent.size));
+        print_done(permissions_linked_switches(table, PERMISSIONS_TABLE_BYTES, replay->run, &replay->number, switches,
+                                               sent.words, sent.space, &sent.size));
     else
         print_done(permissions_switches(table, PERMISSIONS_TABLE_BYTES, switches));
     print_sent(&sent);
@@ -554,12 +556,12 @@ struct asking {
                        size_t *text_size);
     int32_t (*of_all)(void *memory, size_t memory_size, uint32_t answer, void *text, size_t text_space, uint32_t *asked,
                       size_t *text_size);
-    int32_t (*linked_of_path)(void *memory, size_t memory_size, uint64_t *number, const void *path, size_t path_size,
-                              const void *directory, size_t directory_size, uint32_t answer, void *text,
-                              size_t text_space, uint32_t *records, size_t records_space, uint32_t *asked,
+    int32_t (*linked_of_path)(void *memory, size_t memory_size, uint32_t run, uint64_t *number, const void *path,
+                              size_t path_size, const void *directory, size_t directory_size, uint32_t answer,
+                              void *text, size_t text_space, uint32_t *records, size_t records_space, uint32_t *asked,
                               size_t *text_size, size_t *records_size);
-    int32_t (*linked_of_all)(void *memory, size_t memory_size, uint64_t *number, uint32_t answer, void *text,
-                             size_t text_space, uint32_t *records, size_t records_space, uint32_t *asked,
+    int32_t (*linked_of_all)(void *memory, size_t memory_size, uint32_t run, uint64_t *number, uint32_t answer,
+                             void *text, size_t text_space, uint32_t *records, size_t records_space, uint32_t *asked,
                              size_t *text_size, size_t *records_size);
     void (*print)(int32_t result, const struct told *told);
 };
@@ -579,11 +581,11 @@ static int32_t ask_with(const struct asking *asking, struct replay *replay, cons
 
     told->text = text;
     if (replay->is_linked && given->has_path)
-        return asking->linked_of_path(table, PERMISSIONS_TABLE_BYTES, &replay->number, path->start, path->size,
-                                      directory->start, directory->size, answer, text, PERMISSIONS_TEXT_BYTES,
+        return asking->linked_of_path(table, PERMISSIONS_TABLE_BYTES, replay->run, &replay->number, path->start,
+                                      path->size, directory->start, directory->size, answer, text, PERMISSIONS_TEXT_BYTES,
                                       sent->words, sent->space, &told->asked, &told->text_size, &sent->size);
     if (replay->is_linked)
-        return asking->linked_of_all(table, PERMISSIONS_TABLE_BYTES, &replay->number, answer, text,
+        return asking->linked_of_all(table, PERMISSIONS_TABLE_BYTES, replay->run, &replay->number, answer, text,
                                      PERMISSIONS_TEXT_BYTES, sent->words, sent->space, &told->asked, &told->text_size,
                                      &sent->size);
     if (given->has_path)
@@ -626,11 +628,12 @@ static int32_t revoke_with(struct replay *replay, const struct given *given, str
     const struct bytes *path = &given->path, *directory = &given->directory;
 
     if (replay->is_linked && given->has_path)
-        return permissions_linked_revoke(table, PERMISSIONS_TABLE_BYTES, &replay->number, path->start, path->size,
-                                         directory->start, directory->size, sent->words, sent->space, &sent->size);
+        return permissions_linked_revoke(table, PERMISSIONS_TABLE_BYTES, replay->run, &replay->number, path->start,
+                                         path->size, directory->start, directory->size, sent->words, sent->space,
+                                         &sent->size);
     if (replay->is_linked)
-        return permissions_linked_revoke_all(table, PERMISSIONS_TABLE_BYTES, &replay->number, sent->words, sent->space,
-                                             &sent->size);
+        return permissions_linked_revoke_all(table, PERMISSIONS_TABLE_BYTES, replay->run, &replay->number, sent->words,
+                                             sent->space, &sent->size);
     if (given->has_path)
         return permissions_revoke(table, PERMISSIONS_TABLE_BYTES, path->start, path->size, directory->start,
                                   directory->size);
@@ -663,7 +666,7 @@ static bool call_child(struct replay *replay, struct line *line)
         return false;
     sent = lend_records(replay, ends.count);
     if (replay->is_linked)
-        result = permissions_linked_child(table, PERMISSIONS_TABLE_BYTES, &replay->number, child,
+        result = permissions_linked_child(table, PERMISSIONS_TABLE_BYTES, replay->run, &replay->number, child,
                                           PERMISSIONS_TABLE_BYTES, code, items.start, items.size, ends.start, ends.count,
                                           answers.start, answers.count, directory.start, directory.size, sent.words,
                                           sent.space, &asked, &sent.size);
@@ -701,6 +704,18 @@ static bool call_number(struct replay *replay, struct line *line)
     return true;
 }
 
+/* The main begins a run. Whether it is refused or not, the linked calls that follow hand in its number. */
+static bool call_run(struct replay *replay, struct line *line)
+{
+    uint32_t run;
+
+    if (!take_number(line, &run) || !is_over(line))
+        return false;
+    print_done(permissions_begin_run(table_of(&replay->table), PERMISSIONS_TABLE_BYTES, run, &replay->number));
+    replay->run = run;
+    return true;
+}
+
 static bool call_list(struct replay *replay, struct line *line)
 {
     if (!is_over(line))
@@ -722,8 +737,7 @@ static bool call_standby(struct replay *replay, struct line *line)
     if (!is_over(line))
         return false;
     print_done(permissions_fresh(table_of(&replay->standby), PERMISSIONS_TABLE_BYTES));
-    replay->last = 0;
-    replay->highest = 0;
+    memset(&replay->kept, 0, sizeof replay->kept);
     return true;
 }
 
@@ -733,9 +747,29 @@ static bool call_numbers(struct replay *replay, struct line *line)
 
     if (!take_number(line, &last) || !take_number(line, &highest) || !is_over(line))
         return false;
-    replay->last = last;
-    replay->highest = highest;
+    replay->kept.last = last;
+    replay->kept.highest = highest;
     puts("ok");
+    return true;
+}
+
+static bool call_runs(struct replay *replay, struct line *line)
+{
+    uint32_t run, highest;
+
+    if (!take_number(line, &run) || !take_number(line, &highest) || !is_over(line))
+        return false;
+    replay->kept.run = run;
+    replay->kept.highest_run = highest;
+    puts("ok");
+    return true;
+}
+
+static bool call_standbyruns(struct replay *replay, struct line *line)
+{
+    if (!is_over(line))
+        return false;
+    printf("run %" PRIu32 " highest %" PRIu32 "\n", replay->kept.run, replay->kept.highest_run);
     return true;
 }
 
@@ -745,8 +779,8 @@ static bool call_arrive(struct replay *replay, struct line *line)
 
     if (!take_words(replay, line, &record))
         return false;
-    print_arrival(permissions_arrive(table_of(&replay->standby), PERMISSIONS_TABLE_BYTES, &replay->last,
-                                     &replay->highest, record.start, record.count));
+    print_arrival(permissions_standby_arrive(table_of(&replay->standby), PERMISSIONS_TABLE_BYTES, &replay->kept,
+                                             record.start, record.count));
     return true;
 }
 
@@ -760,11 +794,13 @@ static bool call_image(struct replay *replay, struct line *line)
     if (!is_over(line))
         return false;
     sent.words = (uint32_t *)(void *)lend(&replay->records, 0);
-    result = permissions_linked_image(table, PERMISSIONS_TABLE_BYTES, replay->number, sent.words, 0, &sent.space);
+    result = permissions_linked_image(table, PERMISSIONS_TABLE_BYTES, replay->run, replay->number, sent.words, 0,
+                                      &sent.space);
     if (result != PERMISSIONS_REFUSAL_NO_SPACE || sent.space > PERMISSIONS_IMAGE_WORDS)
         fail("an image does not tell its size", 0);
     sent.words = (uint32_t *)(void *)lend(&replay->records, sent.space * sizeof *sent.words);
-    result = permissions_linked_image(table, PERMISSIONS_TABLE_BYTES, replay->number, sent.words, sent.space, &sent.size);
+    result = permissions_linked_image(table, PERMISSIONS_TABLE_BYTES, replay->run, replay->number, sent.words, sent.space,
+                                      &sent.size);
     print_done(result);
     if (result == 0)
         print_words("image", &sent);
@@ -777,8 +813,8 @@ static bool call_load(struct replay *replay, struct line *line)
 
     if (!take_words(replay, line, &image))
         return false;
-    print_arrival(permissions_arrive_image(table_of(&replay->standby), PERMISSIONS_TABLE_BYTES, &replay->last,
-                                           &replay->highest, image.start, image.count));
+    print_arrival(permissions_standby_arrive_image(table_of(&replay->standby), PERMISSIONS_TABLE_BYTES, &replay->kept,
+                                                   image.start, image.count));
     return true;
 }
 
@@ -857,14 +893,17 @@ static const struct call {
     { "child", call_child },
     { "linked", call_linked },
     { "number", call_number },
+    { "run", call_run },
     { "list", call_list },
     { "childlist", call_childlist },
     { "standby", call_standby },
     { "numbers", call_numbers },
+    { "runs", call_runs },
     { "arrive", call_arrive },
     { "image", call_image },
     { "load", call_load },
     { "standbylist", call_standbylist },
+    { "standbyruns", call_standbyruns },
     { "unit", call_unit },
     { "unitrequest", call_unitrequest },
     { "unitrevoke", call_unitrevoke },
@@ -976,6 +1015,7 @@ int main(int count, char **words)
         make_table(&replay.table);
         make_table(&replay.child);
         make_table(&replay.standby);
+        replay.run = 1;
         replay.state = PERMISSIONS_STATE_PROMPT;
         answer_script(&replay);
     }

@@ -29,7 +29,7 @@ use Rattle.table.specs.Tables.{Table}
 use Rattle.table.specs.Acts.{Act, applyActs}
 use Rattle.table.specs.Memory.{tableOf, holds, doActs}
 use Rattle.table.specs.Carrying.{Link, plain, carryCause, actsOf, actOf, actionOf, fits, CarriesOut}
-use Rattle.table.specs.Calls.{tableIn, recordRoom}
+use Rattle.table.specs.Calls.{tableIn, linkIn}
 use Rattle.table.proofs.ActLaws.{carried-done, carried-refused, carried-held, acted-carried}
 use Rattle.table.proofs.CarryingLaws.{action-again}
 use Rattle.table.proofs.CallLaws.{no-table, a-table}
@@ -191,11 +191,11 @@ module _ (call : Call) (link : Link) (m s : List ℕ) (d : Descriptor) (p cwd : 
     ask-no-space l = rw (a-table m h, lt-ltb _ _ l)
 
     module _ (space : textBytes ≤ length s) where
-      pub ask-no-room : recordRoom 1 link ≡ refused NoSpace → askCall call link m s d p cwd response ≡ refused NoSpace
+      pub ask-unlinked : {cause : Refusal} → linkIn 1 link ≡ refused cause → askCall call link m s d p cwd response ≡ refused cause
       unfolding askCall andThen textSpace firstCause unless
-      ask-no-room e = rw (a-table m h, le-ltb _ _ space, e)
+      ask-unlinked e = rw (a-table m h, le-ltb _ _ space, e)
 
-      module _ {numbers : Numbering} (room : recordRoom 1 link ≡ ok numbers) where
+      module _ {numbers : Numbering} (room : linkIn 1 link ≡ ok numbers) where
         pub ask-unknown : responseOf response ≡ Unknown → askCall call link m s d p cwd response ≡ refused refusal.Unknown
         unfolding askCall andThen textSpace firstCause unless knownResponse
         ask-unknown u = rw (a-table m h, le-ltb _ _ space, room, u)
@@ -294,7 +294,7 @@ ask-short {call} {m} {s} {d} {p} {cwd} {response} A =
     rw (A .answers .size)
     (step-short d p cwd (tableIn m) _ (λ t.
     step-short d p cwd (textSpace s) _ (λ space.
-    step-short d p cwd (recordRoom 1 plain) _ (λ numbers.
+    step-short d p cwd (linkIn 1 plain) _ (λ numbers.
     step-short d p cwd (knownResponse (responseOf response)) _ (λ known. due-short call numbers d p cwd t known _ refl)))))
 
 -- ---- revoke
@@ -334,11 +334,11 @@ module _ (link : Link) (m : List ℕ) (d : Descriptor) (p cwd : List ℕ) where
   revoke-no-table h = rw (no-table m h)
 
   module _ (h : holds m ≡ true) where
-    pub revoke-no-room : recordRoom 1 link ≡ refused NoSpace → revokeCall link m d p cwd ≡ refused NoSpace
+    pub revoke-unlinked : {cause : Refusal} → linkIn 1 link ≡ refused cause → revokeCall link m d p cwd ≡ refused cause
     unfolding revokeCall andThen
-    revoke-no-room e = rw (a-table m h, e)
+    revoke-unlinked e = rw (a-table m h, e)
 
-    module _ {numbers : Numbering} (room : recordRoom 1 link ≡ ok numbers) where
+    module _ {numbers : Numbering} (room : linkIn 1 link ≡ ok numbers) where
       pub revoke-ungiven : {cause : Refusal} → given d p cwd ≡ refused cause → revokeCall link m d p cwd ≡ refused cause
       unfolding revokeCall andThen
       revoke-ungiven g = rw (a-table m h, room, g)

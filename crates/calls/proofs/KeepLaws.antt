@@ -11,7 +11,7 @@ use Rattle.paths.proofs.GivingLaws.{given-fits}
 use Rattle.table.specs.declared.Numbering.{Numbering}
 use Rattle.table.specs.Memory.{tableOf, holds}
 use Rattle.table.specs.Carrying.{Link, carryCause, fits}
-use Rattle.table.specs.Calls.{recordRoom}
+use Rattle.table.specs.Calls.{linkIn}
 use Rattle.table.proofs.Puts.{valid-of}
 use Rattle.table.proofs.ActLaws.{Acted, acted-carried}
 use Rattle.table.proofs.CallLaws.{a-table}
@@ -50,7 +50,7 @@ ask-acted call link m s d p cwd response h =
     rw (a-table m h)
     (unfold andThen in
     step-acted actsIn no-acts m (textSpace s) _ h (λ space e.
-    step-acted actsIn no-acts m (recordRoom 1 link) _ h (λ numbers g.
+    step-acted actsIn no-acts m (linkIn 1 link) _ h (λ numbers g.
     step-acted actsIn no-acts m (knownResponse (responseOf response)) _ h (λ known f. settled-acted call numbers m d p cwd known h))))
 
 -- revoke
@@ -60,7 +60,7 @@ unfolding revokeCall
 revoke-acted link m d p cwd h =
     rw (a-table m h)
     (unfold andThen in
-    step-acted actsIn no-acts m (recordRoom 1 link) _ h (λ numbers g.
+    step-acted actsIn no-acts m (linkIn 1 link) _ h (λ numbers g.
     step-acted actsIn no-acts m (given d p cwd) _ h (λ q e.
     carried-acted numbers m (revokeDesc (tableOf m) q) h (unfold revokeDesc fits in revoke-fits q (given-fits d p cwd e)))))
 

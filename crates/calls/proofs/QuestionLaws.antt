@@ -18,7 +18,7 @@ use Rattle.table.specs.declared.Numbering.{Numbering}
 use Rattle.table.specs.Tables.{Table, has, prompt}
 use Rattle.table.specs.Memory.{tableOf, holds}
 use Rattle.table.specs.Carrying.{Link}
-use Rattle.table.specs.Calls.{tableIn, recordRoom}
+use Rattle.table.specs.Calls.{tableIn, linkIn}
 use Rattle.table.proofs.Overwrites.{from-start}
 use Rattle.table.proofs.CallLaws.{no-table, a-table}
 use Rattle.walk.specs.declared.PermissionState.{PermissionState}
@@ -98,7 +98,7 @@ pub data Follows (numbers : Numbering) (t : Table) : Result Bool → Result Deci
   goes : (decision : Decision) → Follows numbers t (ok (decision .asked)) (carriedOut numbers t decision)
 
 module _ (call : Call) (link : Link) (m s : List ℕ) (d : Descriptor) (p cwd : List ℕ) (response : ℕ) {numbers : Numbering} {known : PromptResponse}
-    (room : recordRoom 1 link ≡ ok numbers) (e : responseOf response ≡ Response known) where
+    (room : linkIn 1 link ≡ ok numbers) (e : responseOf response ≡ Response known) where
   follows-given : (t : Table) (g : Result Query)
       → Follows numbers t (andThen g (λ q. ok (wouldAsk call t q))) (andThen g (λ q. carriedOut numbers t (decide call t q known)))
   unfolding andThen
@@ -118,7 +118,7 @@ module _ (call : Call) (link : Link) (m s : List ℕ) (d : Descriptor) (p cwd : 
       by : (b : Bool) → holds m ≡ b
           → Follows numbers (tableOf m)
           (andThen (tableIn m) (λ t. andThen (textSpace s) (λ space. andThen (given d p cwd) (λ q. ok (wouldAsk call t q)))))
-          (andThen (tableIn m) (λ t. andThen (textSpace s) (λ space. andThen (recordRoom 1 link) (λ numbers. andThen (knownResponse (responseOf response)) (λ known. settled call numbers t d p cwd known)))))
+          (andThen (tableIn m) (λ t. andThen (textSpace s) (λ space. andThen (linkIn 1 link) (λ numbers. andThen (knownResponse (responseOf response)) (λ known. settled call numbers t d p cwd known)))))
       by false h = rw (no-table m h) stops
       by true h = rw (a-table m h, room, e) (follows-space (tableOf m) (textSpace s))
 

@@ -17,7 +17,7 @@ use Rattle.table.specs.Tables.{Table}
 use Rattle.table.specs.Acts.{Act, revoke, revokeAll, applyAct}
 use Rattle.table.specs.Memory.{tableOf, doActs}
 use Rattle.table.specs.Carrying.{Link, plain, carryCause, actsOf, actionOf}
-use Rattle.table.specs.Calls.{tableIn, recordRoom}
+use Rattle.table.specs.Calls.{tableIn, linkIn}
 use Rattle.walk.specs.declared.AllowPartial.the-variants.{TreatAsPartialGranted}
 use Rattle.walk.specs.declared.Answer.{Answer}
 use Rattle.walk.specs.declared.Answer.the-variants as answer
@@ -90,7 +90,7 @@ unfoldable pub askCall : Call → Link → List ℕ → List ℕ → Descriptor 
 askCall call link m s d p cwd response =
     andThen (tableIn m) (λ t.
     andThen (textSpace s) (λ space.
-    andThen (recordRoom 1 link) (λ numbers.
+    andThen (linkIn 1 link) (λ numbers.
     andThen (knownResponse (responseOf response)) (λ known.
     settled call numbers t d p cwd known))))
 
@@ -158,11 +158,11 @@ revokeDesc t q = record {
   act = some (revokeAct q);
 }
 
--- 1, 2, 4 to 7, 9
+-- 1, 2, 3 where it is linked, 4 to 7, 9
 unfoldable pub revokeCall : Link → List ℕ → Descriptor → List ℕ → List ℕ → Result Decision
 revokeCall link m d p cwd =
     andThen (tableIn m) (λ t.
-    andThen (recordRoom 1 link) (λ numbers.
+    andThen (linkIn 1 link) (λ numbers.
     andThen (given d p cwd) (λ q.
     carriedOut numbers t (revokeDesc t q))))
 

@@ -14,7 +14,7 @@ use Rattle.paths.proofs.ComponentLaws.{and-left}
 use Rattle.table.specs.declared.Numbering.{Numbering}
 use Rattle.table.specs.Tables.{Table}
 use Rattle.table.specs.Carrying.{Link, plain}
-use Rattle.table.specs.Calls.{tableIn, freshIn, recordRoom}
+use Rattle.table.specs.Calls.{tableIn, freshIn, linkIn}
 use Rattle.calls.specs.declared.PromptResponse.{PromptResponse}
 use Rattle.child.specs.declared.ChildUnaryPermissionArg.{ChildUnaryPermissionArg}
 use Rattle.child.specs.declared.ChildUnaryPermissionArg.the-variants.{Inherit, Granted, NotGranted, GrantedList}
@@ -126,7 +126,7 @@ unfolding childCall
 call-asked link m c code bytes ends responses cwd =
     step-asked (tableIn m) _ (λ t.
     step-asked (freshIn c) _ (λ empty.
-    step-asked (recordRoom (length ends) link) _ (λ numbers.
+    step-asked (linkIn (length ends) link) _ (λ numbers.
     created-asked numbers t code bytes ends responses cwd)))
 
 pub asked-few : {m c : List ℕ} {code : ℕ} {bytes ends responses cwd m′ c′ : List ℕ} {r : ChildMade}

@@ -7,16 +7,17 @@ use mathlib.Core.Bool.{true, false}
 use native.Mathlib.Omega.{arith}
 use lib.ListN.{length}
 use Rattle.refusals.specs.declared.Refusal.{Refusal}
-use Rattle.refusals.specs.declared.Refusal.the-variants.{NoTable, NoSpace}
+use Rattle.refusals.specs.declared.Refusal.the-variants.{NoTable}
 use Rattle.refusals.specs.Refusals.{Result, refused, ok, andThen}
 use Rattle.table.specs.declared.Numbering.{Numbering}
 use Rattle.table.specs.declared.Numbering.the-variants.{Plain}
 use Rattle.table.specs.declared.Outcome.{Outcome}
-use Rattle.table.specs.Tables.{Table, fresh, pathBytes, every, any, present, marksOf, isTable}
+use Rattle.table.specs.Tables.{Table, isTable}
 use Rattle.table.specs.Acts.{applyActs}
 use Rattle.table.specs.Memory.{tableBytes, tableOf, holds, put, doActs}
 use Rattle.table.specs.Carrying.{Link, plain, past, outcomeOf}
-use Rattle.table.specs.Calls.{recordRoom}
+use Rattle.table.specs.Calls.{linkIn}
+use Rattle.table.proofs.TableLaws.{fresh-table}
 use Rattle.table.proofs.Puts.{valid-of, tableOf-put, holds-put}
 use Rattle.table.proofs.ActLaws.{acts-append, Acted, acted-none, acted-append}
 use Rattle.table.proofs.CallLaws.{no-table, a-table, fresh-short, fresh-long, room-plain}
@@ -57,10 +58,6 @@ items-left numbers cwd (i ∷ items) m c h k =
 
 -- ---- the first child
 
-pub fresh-table : isTable fresh ≡ true
-unfolding isTable pathBytes every marksOf present any
-fresh-table = refl
-
 pub first-table : (arg : ChildUnaryPermissionArg) (t : Table) → isTable t ≡ true → isTable (firstChild arg t) ≡ true
 unfolding firstChild
 first-table Inherit t v = v
@@ -88,11 +85,11 @@ module _ (link : Link) (m c : List ℕ) (code : ℕ) (bytes ends responses cwd :
     child-small l = rw (a-table m h, fresh-short c l)
 
     module _ (long : tableBytes ≤ length c) where
-      pub child-no-room : recordRoom (length ends) link ≡ refused NoSpace → childCall link m c code bytes ends responses cwd ≡ refused NoSpace
+      pub child-unlinked : {cause : Refusal} → linkIn (length ends) link ≡ refused cause → childCall link m c code bytes ends responses cwd ≡ refused cause
       unfolding childCall andThen
-      child-no-room e = rw (a-table m h, fresh-long c long, e)
+      child-unlinked e = rw (a-table m h, fresh-long c long, e)
 
-      module _ {numbers : Numbering} (room : recordRoom (length ends) link ≡ ok numbers) where
+      module _ {numbers : Numbering} (room : linkIn (length ends) link ≡ ok numbers) where
         pub child-unknown : {cause : Refusal} → argumentsOf code bytes ends responses ≡ refused cause → childCall link m c code bytes ends responses cwd ≡ refused cause
         unfolding childCall andThen
         child-unknown e = rw (a-table m h, fresh-long c long, room, e)

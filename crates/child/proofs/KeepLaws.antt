@@ -19,8 +19,8 @@ use Rattle.table.specs.Tables.{Table, fresh, isEntry, every, isTable}
 use Rattle.table.specs.Acts.{Act, insert, keptUnless, without, isAct, applyAct, applyActs}
 use Rattle.table.specs.Memory.{tableBytes, tableOf, holds, put, doActs}
 use Rattle.table.specs.Carrying.{plain}
-use Rattle.table.specs.Calls.{freshIn, recordRoom}
-use Rattle.table.proofs.TableLaws.{valid-parts}
+use Rattle.table.specs.Calls.{freshIn, linkIn}
+use Rattle.table.proofs.TableLaws.{valid-parts, fresh-table}
 use Rattle.table.proofs.Puts.{valid-of, long-of, tableOf-put, holds-put}
 use Rattle.table.proofs.ActLaws.{Acted, acted-none, acted-append}
 use Rattle.table.proofs.CallLaws.{a-table}
@@ -31,7 +31,7 @@ use Rattle.child.specs.Making.{Made, then, grantedBy, granting, allItems
 use Rattle.child.specs.Calls.{Creation, creation, childCall, actsIn, childLeft, childAfter, CreatesChild}
 use Rattle.child.proofs.MakingLaws.{then-stops, then-goes, grant-acted, grant-one}
 use Rattle.child.proofs.TakeOverLaws.{switches-fit}
-use Rattle.child.proofs.CreatingLaws.{Left, left-then, items-left, over-acts, fresh-table, first-table}
+use Rattle.child.proofs.CreatingLaws.{Left, left-then, items-left, over-acts, first-table}
 
 -- ---- acts on the child that can be carried out
 
@@ -128,7 +128,7 @@ made-acted m c cwd args h long = both m c cwd args h long .parent
 
 module _ (m c : List ℕ) (code : ℕ) (bytes ends responses cwd : List ℕ) (h : holds m ≡ true) where
   parent-acted : Acted m (actsIn (childCall plain m c code bytes ends responses cwd))
-  unfolding childCall recordRoom
+  unfolding childCall linkIn
   parent-acted =
       rw (a-table m h)
       (unfold andThen in
@@ -162,7 +162,7 @@ module _ (m c : List ℕ) (code : ℕ) (bytes ends responses cwd : List ℕ) (h 
 
   child-call : {s : Creation} → childCall plain m c code bytes ends responses cwd ≡ ok s
       → andThen (freshIn c) (λ empty. andThen (argumentsOf code bytes ends responses) (λ args. ok (creation Plain (tableOf m) cwd args))) ≡ ok s
-  unfolding childCall andThen recordRoom
+  unfolding childCall andThen linkIn
   child-call e = rw (a-table m h) at e
 
   -- it holds a table, unless the call is refused before any item

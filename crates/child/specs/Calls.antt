@@ -11,7 +11,7 @@ use Rattle.table.specs.Tables.{Table, fresh}
 use Rattle.table.specs.Acts.{Act}
 use Rattle.table.specs.Memory.{put, doActs}
 use Rattle.table.specs.Carrying.{Link, plain, outcomeOf}
-use Rattle.table.specs.Calls.{tableIn, freshIn, recordRoom}
+use Rattle.table.specs.Calls.{tableIn, freshIn, linkIn}
 use Rattle.child.specs.declared.ChildMade.{ChildMade}
 use Rattle.child.specs.Arguments.{Arguments, argumentsOf}
 use Rattle.child.specs.Making.{Made, firstChild, createChild}
@@ -29,7 +29,7 @@ unfoldable pub childCall : Link → List ℕ → List ℕ → ℕ → List ℕ �
 childCall link m c code bytes ends responses cwd =
     andThen (tableIn m) (λ t.
     andThen (freshIn c) (λ empty.
-    andThen (recordRoom (length ends) link) (λ numbers.
+    andThen (linkIn (length ends) link) (λ numbers.
     andThen (argumentsOf code bytes ends responses) (λ args.
     ok (creation numbers t cwd args)))))
 

@@ -1,29 +1,34 @@
--- Memory of bytes is still of bytes after any call, so that the main can write an image after any of them.
+-- Memory of bytes is still of bytes after any call and any beginning of a run, so that the main can write an image after any of them.
 use Prim.Native.Nat.{ℕ, zero, suc, _≤_}
 use mathlib.Core.Path.{_≡_, refl, ap, _∙_}
 use mathlib.Core.List.{List, _++_}
 use mathlib.Core.Bool.{Bool, true, false}
 use native.Mathlib.Omega.{arith}
 use lib.ListN.{length, take, drop}
+use Rattle.refusals.specs.Refusals.{Result}
+use Rattle.refusals.proofs.CauseLaws.{Hands, stops, hands}
 use Rattle.paths.specs.Components.{Bytes}
 use Rattle.paths.proofs.ByteLaws.{bytes-none, bytes-cons, bytes-append, bytes-drop}
 use Rattle.table.specs.declared.Place.{Place}
 use Rattle.table.specs.declared.Place.the-variants.{Found, At}
 use Rattle.table.specs.Entries.{Entry}
 use Rattle.table.specs.Placing.{placedAt}
-use Rattle.table.specs.Tables.{Table, maxPathBytes, pathBytes, isTable}
+use Rattle.table.specs.declared.Outcome.{Outcome}
+use Rattle.table.specs.Tables.{Table, maxPathBytes, fresh, pathBytes, isTable}
 use Rattle.table.specs.Acts.{Act, insert, setSwitches, revoke, revokeAll, insertedBy, inserted, keptUnless, without, applyAct, applyActs}
 use Rattle.table.specs.Memory.{tableOf, holds, encodeEntry, encodeAll, encode, put, doAct, doActs}
-use Rattle.table.proofs.TableLaws.{valid-parts, marks-small}
+use Rattle.table.specs.Calls.{putIn}
+use Rattle.table.proofs.TableLaws.{valid-parts, marks-small, fresh-table}
 use Rattle.table.proofs.Within.{number-small}
 use Rattle.table.proofs.Puts.{valid-of}
 use Rattle.table.proofs.ActLaws.{table-acted, acted-one}
 use Rattle.records.specs.Records.{actPath}
 use Rattle.images.specs.Images.{PathBytes, no-entry, entry-more}
 use Rattle.images.proofs.ImageLaws.{entries-bytes}
+use Rattle.link.specs.Beginning.{BeginsRun}
 use Rattle.handover.specs.Handover.{Main, Step}
 use Rattle.handover.proofs.RecordableLaws.{Recorded, no-act, act-more}
-use Rattle.handover.proofs.MainLaws.{step-advances}
+use Rattle.handover.proofs.MainLaws.{step-advances, Begun, begin-hands}
 
 -- ---- a table's paths, and what an act makes of them
 
@@ -82,7 +87,7 @@ put-bytes {m} t B v A =
     (encode-bytes A (K .bytes))))))
     (bytes-drop (length (encode t)) m B)
 
-acts-bytes : {m : List ℕ} {n : ℕ} {t : Table} {acts : List Act} → Bytes m → holds m ≡ true → tableOf m ≡ t → Recorded n t acts → Bytes (doActs m acts)
+acts-bytes : {m : List ℕ} {run n : ℕ} {t : Table} {acts : List Act} → Bytes m → holds m ≡ true → tableOf m ≡ t → Recorded run n t acts → Bytes (doActs m acts)
 unfolding doActs doAct applyActs
 acts-bytes B h e no-act = B
 acts-bytes {m} B h e (act-more {act = act} R A) =
@@ -92,5 +97,15 @@ acts-bytes {m} B h e (act-more {act = act} R A) =
     (one .table ∙ ap (λ (t : Table). applyAct t act) e)
     A
 
-pub step-bytes : {a a′ : Main} {acts : List Act} {wrote : List ℕ} → Bytes (a .memory) → holds (a .memory) ≡ true → Step a acts wrote a′ → Bytes (a′ .memory)
+pub step-bytes : {run : ℕ} {a a′ : Main} {acts : List Act} {wrote : List ℕ} → Bytes (a .memory) → holds (a .memory) ≡ true → Step run a acts wrote a′
+    → Bytes (a′ .memory)
 step-bytes B h S = let W = step-advances h S in rw (W .memory) (acts-bytes B h refl (W .recorded))
+
+-- a run that begins, or is refused
+pub begin-bytes : {m : List ℕ} {q n : ℕ} {m′ : List ℕ} {n′ : ℕ} {r : Outcome} → Bytes m → BeginsRun m q n m′ n′ r → Bytes m′
+unfolding putIn
+begin-bytes {m} {q} B W = rw (W .memory) (by (begin-hands m q))
+  where
+    by : {call : Result Table} → Hands (Begun m) call → Bytes (putIn call m)
+    by stops = B
+    by (hands K) = rw (K .is) (put-bytes fresh B fresh-table no-entry)

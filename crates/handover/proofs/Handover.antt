@@ -1,40 +1,47 @@
 -- Demand 3, with nothing assumed.
 use mathlib.Core.Path.{refl, sym, _∙_}
+use mathlib.Core.List.{List·Memᴰ}
 use native.Mathlib.Omega.{arith}
 use Rattle.walk.proofs.QueryLaws.{query-same}
 use Rattle.standby.specs.Owing.{owedOf}
-use Rattle.standby.proofs.OwingLaws.{owing-exact}
-use Rattle.handover.specs.Handover.{Demand3}
+use Rattle.standby.proofs.ArrivingLaws.{no-conflict}
+use Rattle.standby.proofs.OwingLaws.{owed-in, owed-behind, owing-exact}
+use Rattle.handover.specs.Handover.{Message, Demand3}
 use Rattle.handover.proofs.SequenceLaws.{within-reach}
+use Rattle.handover.proofs.CameLaws.{arrived-sent}
 use Rattle.handover.proofs.JudgedLaws.{reached-some, reached-most}
-use Rattle.handover.proofs.MainLaws.{main-is}
-use Rattle.handover.proofs.OwedLaws.{none-above}
-use Rattle.handover.proofs.StandbyLaws.{standby-is}
+use Rattle.handover.proofs.MainLaws.{present-in, main-is}
+use Rattle.handover.proofs.SentLaws.{Genuine, genuine, no-nought}
+use Rattle.handover.proofs.StandbyLaws.{standby-is, opened, before-opened}
+use Rattle.handover.proofs.OwedLaws.{met-made, none-owed}
 
 pub handover : Demand3
-handover a acts sent wrote s came answers r R Q O =
+handover a runs sent wrote s came answers r R Q O =
     let M = main-is R in
-    let S = standby-is M Q in
+    let S = standby-is (genuine M) Q in
+    let arrived : (m : Message) → List·Memᴰ m came → Genuine runs m = λ m x. genuine M m (arrived-sent Q m x) in
     record {
-      holding = S .holding;
-      table = S .table;
-      reached = S .reached;
-      greatest = λ k I. omega (arith, within-reach I, S .number);
-      reached-so = reached-some (S .reached);
-      greatest-so = λ k K. omega (arith, reached-most K, S .number);
-      queries = λ m h t. query-same (s .memory) m (S .holding) h (S .table ∙ sym t);
+      run = opened S;
+      before = before-opened S (no-nought (M .each 0 .recorded));
+      holding = S .stands .holding;
+      table = rw (S .run) (S .stands .table);
+      same-run = sym (S .run);
+      reached = rw (S .run) (S .stands .reached);
+      greatest = λ k I. omega (arith, within-reach I, S .stands .number);
+      reached-so = rw (S .run) (reached-some (S .stands .reached));
+      greatest-so = λ k K. omega (arith, reached-most (rw (S .run) at K), S .stands .number);
+      queries = λ m h t. query-same (s .memory) m (S .stands .holding) h (rw (S .run) (S .stands .table) ∙ sym t);
       unrefused = S .unrefused;
-      standing = M .holding;
-      main = M .table;
-      counted = M .number;
-      records = M .records;
+      main = λ present earlier e. present-in (rw e at (M .present));
+      records = λ q. M .each q .records;
       images = λ i m. M .images i m .is;
       written = M .written;
+      highest = S .met .run;
+      met = S .met .number;
+      made = met-made arrived (S .met);
       owed = owedOf (s .numbers);
-      report = O ∙ sym (owing-exact (s .numbers) (S .ordered) refl);
-      exact = omega (arith, S .ordered);
-      made = S .made;
-      none = λ e c m. omega (arith, S .met .most c m);
-      only = λ u. omega (arith, none-above (S .met) u);
-      highest = λ l. S .met .highest (omega arith);
+      report = O ∙ sym (owing-exact (s .numbers) (no-conflict (s .numbers) (S .agrees)) refl);
+      exact = λ e. omega (arith, owed-in (s .numbers) e, S .agrees .ordered e);
+      all = owed-behind (s .numbers);
+      none = none-owed arrived (opened S) (S .met) (S .agrees);
     }

@@ -2,11 +2,13 @@ pub mod RecordableLaws
 pub mod CallLaws
 pub mod MessageLaws
 pub mod SequenceLaws
+pub mod CameLaws
 pub mod JudgedLaws
 pub mod MainLaws
 pub mod BytesLaws
-pub mod OwedLaws
+pub mod SentLaws
 pub mod StandbyLaws
+pub mod OwedLaws
 pub mod Handover
 pub mod StepLaws
 pub mod Witness

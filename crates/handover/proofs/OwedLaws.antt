@@ -1,97 +1,46 @@
--- What h is after any list of arrivals: the highest number in a record that arrived, wherever it is above n.
-use Prim.Native.Nat.{ℕ, _≤_, _<_}
-use mathlib.Core.Path.{_≡_, refl}
-use mathlib.Core.List.{List, [], _∷_, _++_, List·Memᴰ·head, Memᴰ·append-left, Memᴰ·append-right, List·Memᴰ·append-cases, List·Memᴰ·eq-of-singleton, List·Memᴰ·not-nil}
-use mathlib.Core.Bool.{Bool, true, false, cond}
+-- What was met and is owed, where all that arrived was sent: the main has made the highest number met, and where nothing is owed the standby is in the highest
+-- run met, with every number met there applied.
+use Prim.Native.Nat.{ℕ, _≤_}
+use mathlib.Core.Path.{_≡_, refl, sym, _∙_}
+use mathlib.Core.List.{List, List·Memᴰ}
+use mathlib.Core.Bool.{Bool, true, false}
 use mathlib.Core.Logic.{⊎-elim}
 use native.Mathlib.Omega.{arith}
-use lib.Dec.{ltb}
-use borrow.Author.Tests.{ltb-true, ltb-false}
-use Rattle.records.specs.Records.{Change}
-use Rattle.images.specs.Images.{Image}
-use Rattle.standby.specs.Arriving.{higher}
-use Rattle.handover.specs.Handover.{Message, changed, image, UpTo, IsHighest}
+use lib.ListN.{length}
+use lib.Dec.{eqb}
+use borrow.Author.Tests.{eqb-true, eqb-false}
+use Rattle.standby.specs.declared.Numbers.{Numbers}
+use Rattle.standby.specs.Owing.{owedOf}
+use Rattle.standby.proofs.ArrivingLaws.{Agrees}
+use Rattle.standby.proofs.OwingLaws.{owed-in, owed-behind}
+use Rattle.handover.specs.Handover.{Message, Run, actsIn, numberOf, Opened, Met, MetNumber, Greatest}
+use Rattle.handover.proofs.CameLaws.{MetIs}
+use Rattle.handover.proofs.SentLaws.{Genuine, genuine-made, genuine-opens}
 
--- h is not raised above what neither number is above
-pub higher-most : (h number : ℕ) {k : ℕ} → h ≤ k → number ≤ k → higher h number ≤ k
-unfolding higher
-higher-most h number {k} l m = go (ltb h number)
-  where
-    go : (b : Bool) → cond b number h ≤ k
-    go true = m
-    go false = l
-
--- no record that arrived has a number above h; and where n is below h, one has it
-pub record Met (came : List Message) (n h : ℕ) : Type 0 where
-  pub most : UpTo h came
-  pub highest : n < h → IsHighest h came
-
-pub met-none : {n h : ℕ} → h ≡ 0 → Met [] n h
-met-none e = record { most = λ c m. absurd (List·Memᴰ·not-nil m); highest = λ l. absurd (omega arith) }
-
--- ---- a message more
-
-module _ {came : List Message} {h k : ℕ} (l : h ≤ k) {m : Message} (few : (c : Change) → changed c ≡ m → c .number ≤ k) where
-  up-to-more : UpTo h came → UpTo k (came ++ m ∷ [])
-  up-to-more most c x = ⊎-elim (λ y. omega (arith, most c y)) (λ y. few c (List·Memᴰ·eq-of-singleton y)) (List·Memᴰ·append-cases came x)
-
-highest-more : {came : List Message} {h : ℕ} {m : Message} → ((c : Change) → changed c ≡ m → c .number ≤ h) → IsHighest h came → IsHighest h (came ++ m ∷ [])
-highest-more few H = record {
-  change = H .change;
-  arrived = Memᴰ·append-left _ (H .arrived);
-  number = H .number;
-  most = up-to-more (omega arith) few (H .most);
-}
-
-no-change : (i : Image) {k : ℕ} (c : Change) → changed c ≡ image i → c .number ≤ k
-no-change i c e = let z : _≡_ {A = ℕ} 0 1 = cc in absurd (omega arith)
-
-module _ {came : List Message} {n h : ℕ} (M : Met came n h) where
-  -- a record, whatever becomes of it
-  pub met-record : (c : Change) {n′ : ℕ} → n ≤ n′ → Met (came ++ changed c ∷ []) n′ (higher h (c .number))
-  unfolding higher
-  met-record c {n′} l = go (ltb h (c .number)) refl
+module _ {runs : List Run} {came : List Message} (genuine : (m : Message) → List·Memᴰ m came → Genuine runs m) where
+  pub met-made : {highest h : ℕ} → MetIs came highest h → h ≤ length (actsIn runs highest)
+  met-made {highest} {h} M = ⊎-elim (λ e. omega arith) made (M .number .one)
     where
-      itself : {k : ℕ} → c .number ≤ k → (d : Change) → changed d ≡ changed c → d .number ≤ k
-      itself f d e = let same : d .number ≡ c .number = cc in omega arith
+      made : MetNumber came highest h → h ≤ length (actsIn runs highest)
+      made C = rw (← C .kind .0) (omega (arith, C .kind .1, genuine-made (genuine (C .message) (C .among))))
 
-      go : (b : Bool) → ltb h (c .number) ≡ b → Met (came ++ changed c ∷ []) n′ (cond b (c .number) h)
-      go true e =
-          let above = ltb-true h (c .number) e in
-          let most : UpTo (c .number) (came ++ changed c ∷ []) = up-to-more (omega arith) (itself (omega arith)) (M .most) in
-          record {
-            most = most;
-            highest = λ f. record { change = c; arrived = Memᴰ·append-right came (List·Memᴰ·head refl); number = refl; most = most };
-          }
-      go false e =
-          let below = ltb-false h (c .number) e in
-          record {
-            most = up-to-more (omega arith) (itself (omega arith)) (M .most);
-            highest = λ f. highest-more (itself (omega arith)) (M .highest (omega arith));
-          }
+  module _ {s : Numbers} (opened : Greatest (Opened came) (s .run)) (M : MetIs came (s .highest) (s .h)) (A : Agrees s) where
+    -- where h is 0 the standby is in the highest run met: what arrived of that run are images with the number 0, which open it
+    not-behind : s .h ≡ 0 → s .run ≡ s .highest
+    not-behind z = ⊎-elim (λ e. omega (arith, A .below)) inside (M .run .one)
+      where
+        inside : Met came (s .highest) → s .run ≡ s .highest
+        inside C =
+            let few = M .number .above (numberOf (C .message)) (record { message = C .message; among = C .among; kind = (C .kind, refl) }) in
+            let opens = genuine-opens (genuine (C .message) (C .among)) (omega arith) in
+            omega (arith, A .below, opened .above (s .highest) (record { message = C .message; among = C .among; kind = (C .kind, opens) }))
 
-  -- an image that is taken
-  pub met-taken : (i : Image) → n < i .number → Met (came ++ image i ∷ []) (i .number) (higher h (i .number))
-  unfolding higher
-  met-taken i l = go (ltb h (i .number)) refl
-    where
-      go : (b : Bool) → ltb h (i .number) ≡ b → Met (came ++ image i ∷ []) (i .number) (cond b (i .number) h)
-      go true e =
-          let above = ltb-true h (i .number) e in
-          record { most = up-to-more (omega arith) (no-change i) (M .most); highest = λ f. absurd (omega arith) }
-      go false e =
-          let below = ltb-false h (i .number) e in
-          record { most = up-to-more (omega arith) (no-change i) (M .most); highest = λ f. highest-more (no-change i) (M .highest (omega arith)) }
+    pub none-owed : owedOf s ≡ 0 → (s .run ≡ s .highest) × (s .n ≡ s .h)
+    none-owed z = go (eqb (s .run) (s .highest)) refl
+      where
+        inside : s .run ≡ s .highest → (s .run ≡ s .highest) × (s .n ≡ s .h)
+        inside e = (e, omega (arith, owed-in s e, A .ordered e))
 
-  -- one that is not
-  pub met-passed : (i : Image) → Met (came ++ image i ∷ []) n h
-  met-passed i = record { most = up-to-more (omega arith) (no-change i) (M .most); highest = λ l. highest-more (no-change i) (M .highest l) }
-
-  -- ---- nothing is owed
-
-  pub none-above : UpTo n came → h ≤ n
-  none-above u = go (ltb n h) refl
-    where
-      go : (b : Bool) → ltb n h ≡ b → h ≤ n
-      go true e = let H = M .highest (ltb-true n h e) in omega (arith, u (H .change) (H .arrived), H .number)
-      go false e = ltb-false n h e
+        go : (b : Bool) → eqb (s .run) (s .highest) ≡ b → (s .run ≡ s .highest) × (s .n ≡ s .h)
+        go true e = inside (eqb-true (s .run) (s .highest) e)
+        go false e = inside (not-behind (sym (owed-behind s (eqb-false (s .run) (s .highest) e)) ∙ z))

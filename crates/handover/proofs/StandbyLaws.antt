@@ -1,226 +1,319 @@
 -- What holds of the standby after any list of arrivals of what the main sent.
-use Prim.Native.Nat.{ℕ, suc, _+_, _≤_, _<_}
-use mathlib.Core.Path.{_≡_, refl, _∙_}
-use mathlib.Core.List.{
-  List,
-  [],
-  _∷_,
-  _++_,
-  List·Memᴰ,
-  List·Memᴰ·head,
-  List·Memᴰ·tail,
-  List·Memᴰ·append-cases,
-  List·Memᴰ·eq-of-singleton,
-  List·Memᴰ·not-nil,
-}
-use mathlib.Core.Option.{none, some}
-use mathlib.Core.Bool.{Bool, true, false, cond}
+use Prim.Native.Nat.{ℕ, _+_, _≤_}
+use mathlib.Core.Path.{_≡_, refl, sym, ap, subst, _∙_}
+use mathlib.Core.List.{List, [], _∷_, _++_, List·Memᴰ, List·Memᴰ·append-cases, List·Memᴰ·eq-of-singleton, List·Memᴰ·not-nil}
+use mathlib.Core.Bool.{true, false}
 use mathlib.Core.Logic.{⊎-elim}
 use native.Mathlib.Numerals.{add-one}
-use native.Mathlib.Nat.{zero-add}
 use native.Mathlib.Omega.{arith}
-use lib.ListN.{length, getD, take}
+use lib.ListN.{length, take}
 use lib.Seq.{take-suc}
-use lib.Dec.{ltb}
-use borrow.Author.Tests.{ltb-true, eq-eqb, ne-eqb}
+use borrow.Author.Tests.{eq-eqb, ne-eqb}
 use Rattle.refusals.specs.declared.Refusal.{Refusal}
 use Rattle.refusals.specs.Refusals.{firstCause, Result, ok}
-use Rattle.table.specs.Tables.{Table, fresh}
-use Rattle.table.specs.Acts.{Act, revokeAll, actOverflows, applyActs}
-use Rattle.table.specs.Memory.{tableOf, holds}
+use Rattle.table.specs.Tables.{fresh}
+use Rattle.table.specs.Acts.{revokeAll, actOverflows, applyAct, applyActs}
+use Rattle.table.specs.Memory.{tableOf, holds, put, doAct}
 use Rattle.table.specs.Carrying.{usedUp, carryCause}
-use Rattle.table.proofs.ActLaws.{applied-append, acted-none, acted-one}
+use Rattle.table.proofs.ActLaws.{applied-append, left-act}
 use Rattle.table.proofs.Puts.{long-of, left-put}
-use Rattle.records.specs.Records.{Change, changeWords, numbered, readChange}
+use Rattle.table.proofs.TableLaws.{fresh-table}
+use Rattle.records.specs.Records.{Change, changeWords}
 use Rattle.records.proofs.RecordLaws.{read-back}
 use Rattle.images.specs.Images.{Image, imageWords}
 use Rattle.images.proofs.ImageLaws.{image-read}
 use Rattle.standby.specs.declared.Numbers.{Numbers}
 use Rattle.standby.specs.declared.Arrival.{Arrival}
-use Rattle.standby.specs.declared.Arrival.the-variants.{Applied, Repeat, Early, Refused}
-use Rattle.standby.specs.Arriving.{Taken, higher, passedBy, taken, answerIn, actsIn, numbersIn, Comes, Arrives}
-use Rattle.standby.specs.Loading.{takenOf, answerOf, memoryOf, numbersOf, Brings, Loads}
-use Rattle.standby.proofs.ArrivingLaws.{arrival-taken, taken-by, applied-room}
-use Rattle.standby.proofs.KeepLaws.{higher-least, Raises, taken-raises}
-use Rattle.standby.proofs.LoadingLaws.{loading-image}
+use Rattle.standby.specs.declared.Arrival.the-variants.{Applied, Repeat, Early, Taken, Refused}
+use Rattle.standby.specs.Arriving.{met, Left, applied, leftBy, Comes, Arrives}
+use Rattle.standby.specs.Loading.{takes, Loads}
+use Rattle.standby.proofs.ArrivingLaws.{
+  Agrees,
+  no-conflict,
+  arrival-taken,
+  Meets,
+  meets,
+  applied-room,
+  Taking,
+  lower,
+  waits,
+  comes,
+  repeats,
+  early,
+  next,
+  taking,
+}
+use Rattle.standby.proofs.LoadingLaws.{loading-image, Loading, taken, passed, loading-as}
 use Rattle.handover.specs.Handover.{
-  Main,
   Message,
   changed,
   image,
+  Run,
+  actsIn,
   Standby,
   Arrivals,
   freshStandby,
   thenRecord,
   thenLoad,
+  runOf,
+  numberOf,
+  Opened,
+  Greatest,
   reach,
   Judged,
   judgedBy,
   judgedFrom,
   judged,
   InSequence,
+  Unmoved,
 }
-use Rattle.handover.proofs.RecordableLaws.{Recorded, recorded-at}
-use Rattle.handover.proofs.MessageLaws.{change-among}
-use Rattle.handover.proofs.SequenceLaws.{changeAt, reach-more, sequence-kept, sequence-next, sequence-none}
-use Rattle.handover.proofs.JudgedLaws.{reachOf, judged-more}
-use Rattle.handover.proofs.OwedLaws.{higher-most, Met, met-none, met-record, met-taken, met-passed}
-use Rattle.handover.proofs.MainLaws.{Imaged, MainIs}
+use Rattle.handover.proofs.SequenceLaws.{reach-more, sequence-kept, sequence-next, sequence-none}
+use Rattle.handover.proofs.CameLaws.{MetIs, met-none, met-more}
+use Rattle.handover.proofs.JudgedLaws.{
+  reachOf,
+  withChange,
+  takenAs,
+  judged-moved,
+  judged-same,
+  judged-still,
+  judged-taken,
+  judged-passed,
+  judged-more,
+  judged-opened,
+}
+use Rattle.handover.proofs.MainLaws.{Imaged}
+use Rattle.handover.proofs.SentLaws.{ChangeIs, Genuine, change-is, image-is}
 
--- ---- a change of the main's
+-- ---- the table and n, by what is judged
 
--- where it stands
-record Place (n : ℕ) (acts : List Act) (c : Change) : Type 0 where
-  place : ℕ
-  within : place < length acts
-  is : c ≡ record { number = n + place + 1; act = getD acts place revokeAll }
+pub record Stands (runs : List Run) (m : List ℕ) (n : ℕ) (j : Judged) : Type 0 where
+  pub holding : holds m ≡ true
+  pub table : tableOf m ≡ applyActs fresh (take n (actsIn runs (j .run)))
+  pub number : n ≡ reachOf j
+  pub reached : InSequence (j .run) (actsIn runs (j .run)) (j .base) (j .since) n
 
-place-of : (n : ℕ) (acts : List Act) {c : Change} → List·Memᴰ c (numbered n acts) → Place n acts c
-unfolding numbered
-place-of n [] m = absurd (List·Memᴰ·not-nil m)
-place-of n (act ∷ acts) (List·Memᴰ·head e) = let same : n + 0 + 1 ≡ n + 1 = omega arith in record { place = 0; within = omega arith; is = rw same e }
-place-of n (act ∷ acts) (List·Memᴰ·tail m) =
-    let P = place-of (n + 1) acts m in
-    let same : n + suc (P .place) + 1 ≡ n + 1 + P .place + 1 = omega arith in
-    record { place = suc (P .place); within = omega (arith, P .within); is = rw same (P .is) }
+-- the next change
+module _ {runs : List Run} {m : List ℕ} {n : ℕ} {j : Judged} {c : Change} (S : Stands runs m n j) (C : ChangeIs (j .run) (actsIn runs (j .run)) n c) where
+  next-room : actOverflows (tableOf m) (c .act) ≡ false
+  next-room = rw (S .table) (C .room)
 
-reads : {acts : List Act} → Recorded 0 fresh acts → (k : ℕ) → k < length acts → readChange (changeWords (changeAt acts k)) ≡ some (changeAt acts k)
-reads R k h = read-back _ (rw zero-add at (recorded-at R k h .readable))
+  next-table : applyAct (tableOf m) (c .act) ≡ applyActs fresh (take (n + 1) (actsIn runs (j .run)))
+  unfolding applyActs
+  next-table = rw (S .table, add-one, take-suc (actsIn runs (j .run)) n revokeAll (C .within), applied-append, C .is)
 
--- ---- an arrival that is not refused
+  stands-next : Stands runs (doAct m (c .act)) (n + 1) (withChange j c)
+  stands-next =
+      let L = left-act m (c .act) (S .holding) (C .readable .fits) next-room in
+      let e : c .number ≡ n + 1 = ap (λ (x : Change). x .number) (C .is) in
+      record {
+        holding = L .holding;
+        table = L .table ∙ next-table;
+        number = rw (reach-more (j .base) (j .since) c, ← S .number, eq-eqb (c .number) (n + 1) e);
+        reached = rw (C .is) (sequence-next (S .reached) (C .within));
+      }
 
--- the next change is applied, and any other passed by
-data NextOrOther (s : Numbers) (c : Change) : Result Taken → Type 0 where
-  next : c .number ≡ s .n + 1
-      → NextOrOther s c (ok (record { answer = Applied; acts = c .act ∷ []; numbers = record { n = s .n + 1; h = higher (s .h) (c .number) } }))
-  other : {answer : Arrival} → ((cause : Refusal) → Refused cause ≡ answer → ⊥) → (c .number ≡ s .n + 1 → ⊥)
-      → NextOrOther s c (ok (record { answer = answer; acts = []; numbers = record { n = s .n; h = higher (s .h) (c .number) } }))
+-- any other of the run
+stands-other : {runs : List Run} {m : List ℕ} {n : ℕ} {j : Judged} (c : Change) → Stands runs m n j → (c .number ≡ n + 1 → ⊥) → Stands runs m n (withChange j c)
+stands-other {n = n} {j = j} c S ne = record {
+  holding = S .holding;
+  table = S .table;
+  number = rw (reach-more (j .base) (j .since) c, ← S .number, ne-eqb (c .number) (n + 1) ne);
+  reached = sequence-kept (S .reached) c;
+}
 
-next-or-other : (t : Table) (s : Numbers) (c : Change) → (c .number ≡ s .n + 1 → actOverflows t (c .act) ≡ false) → NextOrOther s c (taken t s c)
-unfolding passedBy carryCause usedUp firstCause
-next-or-other t s c room =
-    taken-by t s c (NextOrOther s c)
-    (λ l. other {answer = Repeat} (λ cause q. let z : _≡_ {A = ℕ} 0 1 = cc in omega arith) (λ e. omega arith))
-    (λ l. other {answer = Early} (λ cause q. let z : _≡_ {A = ℕ} 0 1 = cc in omega arith) (λ e. omega arith))
-    (λ e. rw (applied-room t s c (rw (room e))) (next e))
+stands-image : {runs : List Run} {i : Image} (m : List ℕ) → holds m ≡ true → Imaged runs i → Stands runs (put (i .table) m) (i .number) (takenAs i)
+unfolding reach
+stands-image {i = i} m h I =
+    let L = left-put m _ (i .table) (I .writable .within) (long-of m h) refl in
+    record { holding = L .holding; table = L .table ∙ I .is .table; number = refl; reached = sequence-none (I .is .made) }
+
+abbrev begunAt : ℕ → Judged
+begunAt q = record { run = q; base = 0; since = [] }
+
+stands-fresh : {runs : List Run} {m : List ℕ} {q : ℕ} → holds m ≡ true → tableOf m ≡ fresh → Stands runs m 0 (begunAt q)
+unfolding reach applyActs
+stands-fresh h e = record { holding = h; table = e; number = refl; reached = sequence-none (omega arith) }
+
+stands-cleared : {runs : List Run} (m : List ℕ) {q : ℕ} → holds m ≡ true → Stands runs (put fresh m) 0 (begunAt q)
+stands-cleared m h = let L = left-put m _ fresh fresh-table (long-of m h) refl in stands-fresh (L .holding) (L .table)
+
+-- ---- numbers agree once number k of run q is met
+
+agrees-met : {s : Numbers} → Agrees s → (q k : ℕ) → Agrees (met s q k)
+agrees-met {s} A q k =
+    let M = meets s q k in
+    let below : met s q k .run ≤ met s q k .highest = omega (arith, A .below, M .same-run, M .up) in
+    record { below = below; ordered = λ e. by M (omega (arith, A .below, M .same-run, M .up)) }
+  where
+    by : {s′ : Numbers} → Meets s q k s′ → (s′ .highest ≡ s .highest) × (s .run ≡ s .highest) → s′ .n ≤ s′ .h
+    by M e = omega (arith, M .same-n, M .keeps (e .0), A .ordered (e .1))
+
+-- also of a standby that comes to that run and number
+agrees-here : (s : Numbers) {q k q′ k′ : ℕ} → q′ ≡ q → k′ ≡ k → Agrees (record { n = k′; h = met s q k .h; run = q′; highest = met s q k .highest })
+agrees-here s {q} {k} e f =
+    let M = meets s q k in
+    record { below = omega (arith, M .over); ordered = λ x. omega (arith, M .reaches (omega arith)) }
 
 -- ---- any list of arrivals
 
 -- memory and numbers of the standby, what is judged from the arrivals, and what arrived
-pub record StandbyIs (acts : List Act) (m : List ℕ) (s : Numbers) (j : Judged) (came : List Message) (answers : List Arrival) : Type 0 where
-  pub holding : holds m ≡ true
-  pub table : tableOf m ≡ applyActs fresh (take (s .n) acts)
-  pub ordered : s .n ≤ s .h
-  pub made : s .h ≤ length acts
-  pub met : Met came (s .n) (s .h)
-  pub number : s .n ≡ reachOf j
-  pub reached : InSequence acts (j .base) (j .since) (s .n)
+pub record StandbyIs (runs : List Run) (m : List ℕ) (s : Numbers) (j : Judged) (came : List Message) (answers : List Arrival) : Type 0 where
+  pub stands : Stands runs m (s .n) j
+  pub run : s .run ≡ j .run
+  pub met : MetIs came (s .highest) (s .h)
+  pub agrees : Agrees s
   pub unrefused : (cause : Refusal) → List·Memᴰ (Refused cause) answers → ⊥
 
 unrefused-more : {answers : List Arrival} {r : Arrival} → ((cause : Refusal) → List·Memᴰ (Refused cause) answers → ⊥)
     → ((cause : Refusal) → Refused cause ≡ r → ⊥) → (cause : Refusal) → List·Memᴰ (Refused cause) (answers ++ r ∷ []) → ⊥
 unrefused-more {answers} f g cause m = ⊎-elim (f cause) (λ x. g cause (List·Memᴰ·eq-of-singleton x)) (List·Memᴰ·append-cases answers m)
 
-module _ {acts : List Act} {m : List ℕ} {s : Numbers} {j : Judged} {came : List Message} {answers : List Arrival} (S : StandbyIs acts m s j came answers) where
+-- the numbers of a standby that the message x leaves at n in run q
+abbrev leftAt : Numbers → Message → ℕ → ℕ → Numbers
+leftAt s x n q = record { n = n; h = met s (runOf x) (numberOf x) .h; run = q; highest = met s (runOf x) (numberOf x) .highest }
+
+-- a message arrives, and leaves memory m′ and such numbers; or the standby stays where it is
+module _ {runs : List Run} {m : List ℕ} {s : Numbers} {j : Judged} {came : List Message} {answers : List Arrival} (S : StandbyIs runs m s j came answers)
+    (x : Message) {r : Arrival} (never : (cause : Refusal) → Refused cause ≡ r → ⊥) {k : Judged} (e : judgedBy j x ≡ k) where
+  then-left : {m′ : List ℕ} {n q : ℕ} → Stands runs m′ n k → q ≡ k .run → Agrees (leftAt s x n q)
+      → StandbyIs runs m′ (leftAt s x n q) (judgedBy j x) (came ++ x ∷ []) (answers ++ r ∷ [])
+  then-left T f A = rw e (record { stands = T; run = f; met = met-more x s (S .met); agrees = A; unrefused = unrefused-more (S .unrefused) never })
+
+  then-stays : Stands runs m (s .n) k → s .run ≡ k .run → StandbyIs runs m (met s (runOf x) (numberOf x)) (judgedBy j x) (came ++ x ∷ []) (answers ++ r ∷ [])
+  then-stays T f =
+      let M = meets s (runOf x) (numberOf x) in
+      then-left (rw (M .same-n) T) (M .same-run ∙ f) (agrees-met (S .agrees) (runOf x) (numberOf x))
+
+never-repeat : (cause : Refusal) → Refused cause ≡ Repeat → ⊥
+never-repeat cause e = let z : _≡_ {A = ℕ} 0 1 = cc in omega arith
+
+never-early : (cause : Refusal) → Refused cause ≡ Early → ⊥
+never-early cause e = let z : _≡_ {A = ℕ} 0 1 = cc in omega arith
+
+never-applied : (cause : Refusal) → Refused cause ≡ Applied → ⊥
+never-applied cause e = let z : _≡_ {A = ℕ} 0 1 = cc in omega arith
+
+never-taken : (cause : Refusal) → Refused cause ≡ Taken → ⊥
+never-taken cause e = let z : _≡_ {A = ℕ} 0 1 = cc in omega arith
+
+module _ {runs : List Run} {m : List ℕ} {s : Numbers} {j : Judged} {came : List Message} {answers : List Arrival} (S : StandbyIs runs m s j came answers) where
+  met-run : (q k : ℕ) → met s q k .run ≡ j .run
+  met-run q k = meets s q k .same-run ∙ S .run
+
+  met-reach : (q k : ℕ) → met s q k .n ≡ reachOf j
+  met-reach q k = meets s q k .same-n ∙ S .stands .number
+
   -- a record
-  module _ (R : Recorded 0 fresh acts) (k : ℕ) (h : k < length acts) where
-    room : k + 1 ≡ s .n + 1 → actOverflows (tableOf m) (getD acts k revokeAll) ≡ false
-    room e = let at : s .n ≡ k = omega arith in rw (S .table, at) (recorded-at R k h .room)
+  module _ {c : Change} {k : ℕ} (C : ChangeIs (c .run) (actsIn runs (c .run)) k c) where
+    -- it is the change after n of the run q
+    change-in : {q n : ℕ} → c .run ≡ q → c .number ≡ n + 1 → ChangeIs q (actsIn runs q) n c
+    change-in {q} {n} e f =
+        let at : k ≡ n = omega (arith, ap (λ (x : Change). x .number) (C .is)) in
+        subst (λ (q : ℕ). ChangeIs q (actsIn runs q) n c) e (subst (λ (n : ℕ). ChangeIs (c .run) (actsIn runs (c .run)) n c) at C)
 
-    arrived-by : {call : Result Taken} {m′ : List ℕ} {s′ : Numbers} {r : Arrival} → NextOrOther s (changeAt acts k) call → Raises s (numbersIn call s)
-        → Comes call m s m′ s′ r → StandbyIs acts m′ s′ (judgedBy j (changed (changeAt acts k))) (came ++ changed (changeAt acts k) ∷ []) (answers ++ r ∷ [])
-    unfolding answerIn actsIn numbersIn judgedBy
-    arrived-by (next e) U C =
-        let at : s .n ≡ k = omega arith in
-        let A = acted-one m (getD acts k revokeAll) (S .holding) (recorded-at R k h .readable .fits) (room e) in
-        rw (C .memory, C .numbers, C .answer) (record {
-          holding = A .holding;
-          table = A .table ∙ rw (S .table, at, add-one, take-suc acts k revokeAll h, applied-append);
-          ordered = U .ordered (S .ordered);
-          made = higher-most (s .h) (k + 1) (S .made) (omega arith);
-          met = met-record (S .met) (changeAt acts k) (U .last);
-          number = rw (reach-more (j .base) (j .since) (changeAt acts k), ← S .number, eq-eqb (k + 1) (s .n + 1) e);
-          reached = rw at (sequence-next (rw at at (S .reached)) h);
-          unrefused = unrefused-more (S .unrefused) (λ cause q. let z : _≡_ {A = ℕ} 0 1 = cc in omega arith);
-        })
-    arrived-by (other f e) U C =
-        let A = acted-none m (S .holding) in
-        rw (C .memory, C .numbers, C .answer) (record {
-          holding = A .holding;
-          table = A .table ∙ (unfold applyActs in S .table);
-          ordered = U .ordered (S .ordered);
-          made = higher-most (s .h) (k + 1) (S .made) (omega arith);
-          met = met-record (S .met) (changeAt acts k) (U .last);
-          number = rw (reach-more (j .base) (j .since) (changeAt acts k), ← S .number, ne-eqb (k + 1) (s .n + 1) e);
-          reached = sequence-kept (S .reached) (changeAt acts k);
-          unrefused = unrefused-more (S .unrefused) f;
-        })
+    same-run : met s (c .run) (c .number) .run ≡ j .run
+    same-run = met-run (c .run) (c .number)
 
-    arrived : {m′ : List ℕ} {s′ : Numbers} {r : Arrival} → Arrives m (changeWords (changeAt acts k)) s m′ s′ r
-        → StandbyIs acts m′ s′ (judgedBy j (changed (changeAt acts k))) (came ++ changed (changeAt acts k) ∷ []) (answers ++ r ∷ [])
-    arrived C =
-        arrived-by (next-or-other (tableOf m) s (changeAt acts k) room) (taken-raises s (tableOf m) (changeAt acts k))
-        (rw (arrival-taken m _ s (S .holding) (S .ordered) (reads R k h)) at C)
+    same-n : met s (c .run) (c .number) .n ≡ s .n
+    same-n = meets s (c .run) (c .number) .same-n
+
+    arrived-next : {m′ : List ℕ} {s′ : Numbers} {r : Arrival} → c .run ≡ met s (c .run) (c .number) .run → c .number ≡ met s (c .run) (c .number) .n + 1
+        → Comes (applied (tableOf m) m (met s (c .run) (c .number)) c) m s m′ s′ r
+        → StandbyIs runs m′ s′ (judgedBy j (changed c)) (came ++ changed c ∷ []) (answers ++ r ∷ [])
+    unfolding leftBy runOf numberOf carryCause usedUp firstCause
+    arrived-next q e D =
+        let N = change-in {n = s .n} (q ∙ same-run) (omega (arith, same-n)) in
+        let A = rw (applied-room (tableOf m) m (met s (c .run) (c .number)) c (rw (next-room (S .stands) N))) at D in
+        rw (A .memory, A .numbers, A .answer)
+        (then-left S (changed c) never-applied (judged-same j c (omega (arith, same-run))) (rw same-n (stands-next (S .stands) N)) same-run
+        (agrees-here s (sym q) (sym e)))
+
+    arrived-by : {call : Result Left} {m′ : List ℕ} {s′ : Numbers} {r : Arrival} → Taking (tableOf m) m (met s (c .run) (c .number)) c call → Comes call m s m′ s′ r
+        → StandbyIs runs m′ s′ (judgedBy j (changed c)) (came ++ changed c ∷ []) (answers ++ r ∷ [])
+    unfolding leftBy runOf numberOf
+    arrived-by (lower l) D =
+        rw (D .memory, D .numbers, D .answer)
+        (then-stays S (changed c) never-repeat (judged-still j c (λ e. omega (arith, same-run)) (λ one. omega (arith, same-run))) (S .stands) (S .run))
+    arrived-by (waits l ne) D =
+        rw (D .memory, D .numbers, D .answer)
+        (then-stays S (changed c) never-early (judged-still j c (λ e. omega (arith, same-run)) (λ one. absurd (ne one))) (S .stands) (S .run))
+    arrived-by (comes l one) D =
+        rw (D .memory, D .numbers, D .answer)
+        (then-left S (changed c) never-applied (judged-moved j c (omega (arith, same-run)) one)
+        (stands-next (stands-cleared m (S .stands .holding)) (change-in refl one)) refl (agrees-here s refl (sym one)))
+    arrived-by (repeats q l) D =
+        rw (D .memory, D .numbers, D .answer)
+        (then-stays S (changed c) never-repeat (judged-same j c (omega (arith, same-run))) (stands-other c (S .stands) (λ e. omega (arith, same-n))) (S .run))
+    arrived-by (early q l) D =
+        rw (D .memory, D .numbers, D .answer)
+        (then-stays S (changed c) never-early (judged-same j c (omega (arith, same-run))) (stands-other c (S .stands) (λ e. omega (arith, same-n))) (S .run))
+    arrived-by (next q e) D = arrived-next q e D
+
+    arrived : {m′ : List ℕ} {s′ : Numbers} {r : Arrival} → Arrives m (changeWords c) s m′ s′ r
+        → StandbyIs runs m′ s′ (judgedBy j (changed c)) (came ++ changed c ∷ []) (answers ++ r ∷ [])
+    arrived D =
+        arrived-by (taking (tableOf m) m (met s (c .run) (c .number)) c)
+        (rw (arrival-taken m (changeWords c) s (S .stands .holding) (no-conflict s (S .agrees)) (read-back c (C .readable))) at D)
 
   -- an image
-  module _ {i : Image} (I : Imaged acts i) {m′ : List ℕ} {s′ : Numbers} {r : Arrival} where
-    loaded-by : (b : Bool) → ltb (s .n) (i .number) ≡ b → Brings (ok (cond b (some i) none)) m s m′ s′ r
-        → StandbyIs acts m′ s′ (cond b (record { base = i .number; since = [] }) j) (came ++ image i ∷ []) (answers ++ r ∷ [])
-    unfolding answerOf memoryOf numbersOf reach
-    loaded-by true below C =
-        let L = left-put m _ (i .table) (I .writable .within) (long-of m (S .holding)) refl in
-        rw (C .memory, C .numbers, C .answer) (record {
-          holding = L .holding;
-          table = L .table ∙ I .is .table;
-          ordered = higher-least (s .h) (i .number) .1;
-          made = higher-most (s .h) (i .number) (S .made) (I .is .made);
-          met = met-taken (S .met) i (ltb-true (s .n) (i .number) below);
-          number = refl;
-          reached = sequence-none (I .is .made);
-          unrefused = unrefused-more (S .unrefused) (λ cause q. let z : _≡_ {A = ℕ} 0 1 = cc in omega arith);
-        })
-    loaded-by false below C = rw (C .memory, C .numbers, C .answer) (record {
-      holding = S .holding;
-      table = S .table;
-      ordered = S .ordered;
-      made = S .made;
-      met = met-passed (S .met) i;
-      number = S .number;
-      reached = S .reached;
-      unrefused = unrefused-more (S .unrefused) (λ cause q. let z : _≡_ {A = ℕ} 0 1 = cc in omega arith);
-    })
+  module _ {i : Image} (I : Imaged runs i) where
+    loaded-by : {l : Left} {m′ : List ℕ} {s′ : Numbers} {r : Arrival} → Loading m (met s (i .run) (i .number)) i l → Comes (ok l) m s m′ s′ r
+        → StandbyIs runs m′ s′ (judgedBy j (image i)) (came ++ image i ∷ []) (answers ++ r ∷ [])
+    unfolding leftBy runOf numberOf takes
+    loaded-by (taken l less) D =
+        let same = met-run (i .run) (i .number) in
+        rw (D .memory, D .numbers, D .answer)
+        (then-left S (image i) never-taken (judged-taken j i (omega arith) (λ e. omega (arith, met-reach (i .run) (i .number), less (omega arith))))
+        (stands-image m (S .stands .holding) I) refl (agrees-here s refl refl))
+    loaded-by (passed l few) D =
+        let same = met-run (i .run) (i .number) in
+        rw (D .memory, D .numbers, D .answer)
+        (then-stays S (image i) never-repeat (judged-passed j i (omega arith) (λ e. omega (arith, met-reach (i .run) (i .number), few (omega arith))))
+        (S .stands) (S .run))
 
-    loaded : Loads m (imageWords i) s m′ s′ r → StandbyIs acts m′ s′ (judgedBy j (image i)) (came ++ image i ∷ []) (answers ++ r ∷ [])
-    unfolding judgedBy takenOf
-    loaded C = rw (← S .number) (loaded-by (ltb (s .n) (i .number)) refl (rw (loading-image m _ s (S .holding) (S .ordered) (image-read (I .writable))) at C))
+    loads : {m′ : List ℕ} {s′ : Numbers} {r : Arrival} → Loads m (imageWords i) s m′ s′ r
+        → StandbyIs runs m′ s′ (judgedBy j (image i)) (came ++ image i ∷ []) (answers ++ r ∷ [])
+    loads D =
+        loaded-by (loading-as m (met s (i .run) (i .number)) i)
+        (rw (loading-image m (imageWords i) s (S .stands .holding) (no-conflict s (S .agrees)) (image-read (I .writable))) at D)
 
 -- what was sent arrives
-module _ {a : Main} {acts : List Act} {sent : List Message} {wrote : List ℕ} (M : MainIs a acts sent wrote)
-    {m : List ℕ} {s : Numbers} {came : List Message} {answers : List Arrival} (S : StandbyIs acts m s (judged came) came answers)
+module _ {runs : List Run} {m : List ℕ} {s : Numbers} {came : List Message} {answers : List Arrival} (S : StandbyIs runs m s (judged came) came answers)
     {m′ : List ℕ} {s′ : Numbers} {r : Arrival} {all : List Message} {told : List Arrival} where
-  then-record : {c : Change} → List·Memᴰ (changed c) sent → Arrives m (changeWords c) s m′ s′ r → all ≡ came ++ changed c ∷ [] → told ≡ answers ++ r ∷ []
-      → StandbyIs acts m′ s′ (judged all) all told
-  then-record {c} x C e f =
-      let P = place-of 0 acts (rw (M .records) at (change-among x)) in
-      let same : c ≡ changeAt acts (P .place) = P .is ∙ rw zero-add in
-      rw (e, f, judged-more came (changed c), same) (arrived S (M .recorded) (P .place) (P .within) (rw same at C))
+  then-record : {c : Change} → Genuine runs (changed c) → Arrives m (changeWords c) s m′ s′ r → all ≡ came ++ changed c ∷ [] → told ≡ answers ++ r ∷ []
+      → StandbyIs runs m′ s′ (judged all) all told
+  then-record {c} (change-is k C) D e f = rw (e, f, judged-more came (changed c)) (arrived S C D)
 
-  then-load : {i : Image} → List·Memᴰ (image i) sent → Loads m (imageWords i) s m′ s′ r → all ≡ came ++ image i ∷ [] → told ≡ answers ++ r ∷ []
-      → StandbyIs acts m′ s′ (judged all) all told
-  then-load {i} x C e f = rw (e, f, judged-more came (image i)) (loaded S (M .images i x) C)
+  then-load : {i : Image} → Genuine runs (image i) → Loads m (imageWords i) s m′ s′ r → all ≡ came ++ image i ∷ [] → told ≡ answers ++ r ∷ []
+      → StandbyIs runs m′ s′ (judged all) all told
+  then-load {i} (image-is I) D e f = rw (e, f, judged-more came (image i)) (loads S I D)
 
-pub standby-is : {a : Main} {acts : List Act} {sent : List Message} {wrote : List ℕ} {s : Standby} {came : List Message} {answers : List Arrival}
-    → MainIs a acts sent wrote → Arrivals Arrives Loads sent s came answers → StandbyIs acts (s .memory) (s .numbers) (judged came) came answers
-unfolding applyActs judgedFrom reach
-standby-is M (freshStandby F e f) = record {
-  holding = F .holding;
-  table = F .table ∙ rw e;
-  ordered = omega arith;
-  made = omega arith;
-  met = met-none f;
-  number = e;
-  reached = rw e (sequence-none (omega arith));
+pub standby-is : {runs : List Run} {sent : List Message} {s : Standby} {came : List Message} {answers : List Arrival}
+    → ((m : Message) → List·Memᴰ m sent → Genuine runs m) → Arrivals Arrives Loads sent s came answers
+    → StandbyIs runs (s .memory) (s .numbers) (judged came) came answers
+unfolding judgedFrom
+standby-is G (freshStandby F e) = rw e (record {
+  stands = stands-fresh (F .holding) (F .table);
+  run = refl;
+  met = met-none;
+  agrees = record { below = omega arith; ordered = λ x. omega arith };
   unrefused = λ cause m. List·Memᴰ·not-nil m;
-}
-standby-is M (thenRecord A x C e f) = then-record M (standby-is M A) x C e f
-standby-is M (thenLoad A x C e f) = then-load M (standby-is M A) x C e f
+})
+standby-is G (thenRecord {c = c} A x D e f) = then-record (standby-is G A) (G (changed c) x) D e f
+standby-is G (thenLoad {i = i} A x D e f) = then-load (standby-is G A) (G (image i) x) D e f
+
+-- ---- before a run is opened
+
+module _ {runs : List Run} {s : Standby} {came : List Message} {answers : List Arrival} (S : StandbyIs runs (s .memory) (s .numbers) (judged came) came answers) where
+  pub opened : Greatest (Opened came) (s .numbers .run)
+  opened = rw (S .run) (judged-opened came)
+
+  unmoved : actsIn runs 0 ≡ [] → s .numbers .run ≡ 0 → Unmoved s
+  unfolding applyActs
+  unmoved nought e =
+      let acts : actsIn runs (judged came .run) ≡ [] = rw (← S .run, e) nought in
+      let n : s .numbers .n ≡ 0 = omega (arith, S .stands .reached .made, ap length acts) in
+      record { run = e; n = n; table = S .stands .table ∙ rw n }
+
+  pub before-opened : actsIn runs 0 ≡ [] → ((q : ℕ) → Opened came q → ⊥) → Unmoved s
+  before-opened nought lacks = ⊎-elim (unmoved nought) (λ O. absurd (lacks _ O)) (opened .one)

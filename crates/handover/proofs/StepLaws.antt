@@ -1,27 +1,29 @@
 -- Laws of single steps: each call has a next main, and what goes on from a main or a standby whose table is known.
-use Prim.Native.Nat.{ℕ, zero, suc, _+_}
-use mathlib.Core.Path.{_≡_, refl, sym}
-use mathlib.Core.List.{List, [], _∷_, _++_, List·Memᴰ}
-use mathlib.Core.Option.{Option, none, some}
-use mathlib.Core.Bool.{true}
+use Prim.Native.Nat.{ℕ, zero, suc, _+_, _≤_, _<_}
+use mathlib.Core.Path.{_≡_, refl, sym, ap, _∙_}
+use mathlib.Core.List.{List, [], _∷_, _++_, List·Memᴰ, List·Memᴰ·eq-of-singleton, List·Memᴰ·not-nil}
+use mathlib.Core.Option.{some}
+use mathlib.Core.Bool.{Bool, true}
 use native.Mathlib.Omega.{arith}
-use lib.ListN.{length, take, length-append}
+use lib.ListN.{length, take}
 use lib.Seq.{take-append-seam}
-use lib.Dec.{ltb}
+use Rattle.refusals.specs.declared.Refusal.{Refusal}
 use Rattle.refusals.specs.declared.Refusal.the-variants.{NoTable}
 use Rattle.refusals.specs.Refusals.{when, firstCause, Result, refused, ok, andThen, unless, causeOf}
 use Rattle.paths.specs.declared.Descriptor.{Descriptor}
 use Rattle.paths.specs.Components.{Bytes}
 use Rattle.paths.specs.Copying.{begun}
 use Rattle.paths.proofs.ByteLaws.{bytes-none, bytes-cons}
-use Rattle.table.specs.Tables.{Table, fresh, pathBytes, every, any, present, marksOf, isTable}
-use Rattle.table.specs.Acts.{Act, applyActs}
-use Rattle.table.specs.Memory.{tableBytes, doActs}
-use Rattle.table.specs.Carrying.{linked, outcomeOf}
+use Rattle.table.specs.declared.Outcome.the-variants as outcome
+use Rattle.table.specs.Tables.{Table, fresh, isTable}
+use Rattle.table.specs.Acts.{Act, applyAct, applyActs}
+use Rattle.table.specs.Memory.{tableBytes, put, doAct, doActs}
+use Rattle.table.specs.Carrying.{linked, isRun, outcomeOf}
 use Rattle.table.specs.Calls.{tableIn, switchesCall, insertCall}
 use Rattle.table.specs.Calls as table-calls
-use Rattle.table.proofs.ActLaws.{applied-append}
+use Rattle.table.proofs.CallLaws.{makes-fresh}
 use Rattle.table.proofs.Puts.{long-of, left-put}
+use Rattle.table.proofs.TableLaws.{fresh-table}
 use Rattle.table.proofs.StandingLaws.{allFit, Stands, stands-then, table-in, spaceOf, tableMemory, memory-stands}
 use Rattle.walk.specs.declared.Answer.{Answer}
 use Rattle.walk.specs.Calls.{queryAnswer}
@@ -33,15 +35,18 @@ use Rattle.calls.proofs.AskLaws.{resultOf, answers-of}
 use Rattle.child.specs.Calls.{Creation, childCall, refusalIn, childAfter}
 use Rattle.child.specs.Calls as child-calls
 use Rattle.records.specs.Records.{Change, changeWords, numbered, allWords, readChange}
-use Rattle.images.specs.Images.{Image, imageWords, imageSize, no-entry, Writable}
+use Rattle.records.proofs.RecordLaws.{read-back}
+use Rattle.images.specs.Images.{Image, imageWords, imageSize, readImage}
 use Rattle.images.proofs.ImageLaws.{image-read}
 use Rattle.link.specs.declared.ImageSent.{ImageSent}
+use Rattle.link.specs.Beginning.{beginCall, BeginsRun}
 use Rattle.link.specs.Imaging.{imageCall, wordsIn, sizeIn, WritesImage}
 use Rattle.link.proofs.SendingLaws.{sends-of}
+use Rattle.link.proofs.BeginningLaws.{begins-refused, begins-fresh}
 use Rattle.standby.specs.declared.Numbers.{Numbers}
 use Rattle.standby.specs.declared.Arrival.{Arrival}
-use Rattle.standby.specs.Arriving.{standbyIn, wellFormed, Taken, arrival, answerIn, actsIn, numbersIn, Arrives}
-use Rattle.standby.specs.Loading.{isImage, loading, answerOf, memoryOf, numbersOf, Loads}
+use Rattle.standby.specs.Arriving.{conflict, standbyIn, wellFormed, Left, leftBy, Comes}
+use Rattle.standby.specs.Loading.{isImage}
 use Rattle.handover.specs.Handover.{
   IsFresh,
   Main,
@@ -56,8 +61,13 @@ use Rattle.handover.specs.Handover.{
   image,
   changesSent,
   imageSent,
+  Run,
+  Above,
+  Handed,
   Calls,
-  freshMain,
+  noRun,
+  thenRun,
+  thenNoRun,
   thenCall,
   thenImage,
   allMessageWords,
@@ -66,179 +76,218 @@ use Rattle.handover.specs.Handover.{
   freshStandby,
   thenRecord,
   thenLoad,
+  MainIn,
 }
-use Rattle.handover.specs.Witness.{Line, inserting, switching, asking, revoking, creating, querying, imaging, lineOf, script, after, Steps}
-use Rattle.handover.specs.Wrong.{Taking, By, Choosing, loadingBy, LoadBy}
+use Rattle.handover.specs.Witness.{
+  Line,
+  beginning,
+  inserting,
+  switching,
+  asking,
+  revoking,
+  creating,
+  querying,
+  imaging,
+  lineOf,
+  script,
+  after,
+  Steps,
+}
+use Rattle.handover.specs.Wrong.{Taking, arrivalBy, By, Bringing, loadingBy, LoadBy}
 use Rattle.handover.proofs.MessageLaws.{words-append, words-sent, words-image}
-use Rattle.handover.proofs.MainLaws.{image-wrote}
-use Rattle.handover.proofs.BytesLaws.{put-bytes, step-bytes}
+use Rattle.handover.proofs.MainLaws.{image-wrote, present-in, main-is}
+use Rattle.handover.proofs.BytesLaws.{begin-bytes, step-bytes}
+use Rattle.handover.proofs.SentLaws.{Genuine, change-is, image-is, genuine}
 
 -- ---- each promise says all that its call leaves, so that any call on any main has a step, whatever it is lent, handed and answered; `call` is what the
 -- call comes to
 
-abbrev sent : Main → List Act → List ℕ
-sent a acts = allWords (numbered (a .number) acts)
+abbrev sent : ℕ → Main → List Act → List ℕ
+sent run a acts = allWords (numbered run (a .number) acts)
 
 -- the words that stand at the start of a space
 at-start : (x w : List ℕ) → x ≡ take (length x) (begun x w)
 unfolding begun
 at-start x w = sym (take-append-seam x _)
 
-module _ (a : Main) (w : List ℕ) where
-  pub insert-steps : (kind : ℕ) (p cwd : List ℕ) → Bytes p → Bytes cwd → (call : Result Act) → insertCall (linked (a .number) w) (a .memory) kind p cwd ≡ call
-      → Steps a (table-calls.actsIn call) (inserting kind p (outcomeOf (causeOf call)))
+module _ (run : ℕ) (a : Main) (w : List ℕ) where
+  pub insert-steps : (kind : ℕ) (p cwd : List ℕ) → Bytes p → Bytes cwd → (call : Result Act) → insertCall (linked run (a .number) w) (a .memory) kind p cwd ≡ call
+      → Steps run a (table-calls.actsIn call) (inserting run kind p (outcomeOf (causeOf call)))
   unfolding lineOf
   insert-steps kind p cwd b c call e =
       let acts = table-calls.actsIn call in
       record {
         step =
-            inserts w kind p cwd (begun (sent a acts) w) (record { outcome = outcomeOf (causeOf call); words = length (sent a acts) }) b c
-            (record { outcome = rw e; sends = sends-of (a .number) (a .memory) w (rw e) })
+            inserts w kind p cwd (begun (sent run a acts) w) (record { outcome = outcomeOf (causeOf call); words = length (sent run a acts) }) b c
+            (record { outcome = rw e; sends = sends-of run (a .number) (a .memory) w (rw e) })
             (rw e)
             (at-start _ _);
         is = refl;
       }
 
-  pub switches-steps : (v : ℕ) (call : Result Act) → switchesCall (linked (a .number) w) (a .memory) v ≡ call
-      → Steps a (table-calls.actsIn call) (switching v (outcomeOf (causeOf call)))
+  pub switches-steps : (v : ℕ) (call : Result Act) → switchesCall (linked run (a .number) w) (a .memory) v ≡ call
+      → Steps run a (table-calls.actsIn call) (switching run v (outcomeOf (causeOf call)))
   unfolding lineOf
   switches-steps v call e =
       let acts = table-calls.actsIn call in
       record {
         step =
-            switches w v (begun (sent a acts) w) (record { outcome = outcomeOf (causeOf call); words = length (sent a acts) })
-            (record { outcome = rw e; sends = sends-of (a .number) (a .memory) w (rw e) })
+            switches w v (begun (sent run a acts) w) (record { outcome = outcomeOf (causeOf call); words = length (sent run a acts) })
+            (record { outcome = rw e; sends = sends-of run (a .number) (a .memory) w (rw e) })
             (rw e)
             (at-start _ _);
         is = refl;
       }
 
   pub ask-steps : (kind : Call) (s : List ℕ) (d : Descriptor) (p cwd : List ℕ) (response : ℕ) → Bytes p → Bytes cwd → (call : Result Decision)
-      → askCall kind (linked (a .number) w) (a .memory) s d p cwd response ≡ call → Steps a (calls.actsIn call) (asking kind d p response (calls.answerIn call))
+      → askCall kind (linked run (a .number) w) (a .memory) s d p cwd response ≡ call → Steps run a (calls.actsIn call) (asking run kind d p response (calls.answerIn call))
   unfolding lineOf
   ask-steps kind s d p cwd response b c call e =
       let acts = calls.actsIn call in
       record {
         step =
-            asks kind s w d p cwd response (begun (textDue call d p cwd) s) (begun (sent a acts) w)
-            (record { answered = resultOf call d p cwd; words = length (sent a acts) })
+            asks kind s w d p cwd response (begun (textDue call d p cwd) s) (begun (sent run a acts) w)
+            (record { answered = resultOf call d p cwd; words = length (sent run a acts) })
             b
             c
-            (record { answers = answers-of d p cwd s e; sends = sends-of (a .number) (a .memory) w (rw e) })
+            (record { answers = answers-of d p cwd s e; sends = sends-of run (a .number) (a .memory) w (rw e) })
             (rw e)
             (at-start _ _);
         is = refl;
       }
 
-  pub revoke-steps : (d : Descriptor) (p cwd : List ℕ) → Bytes p → Bytes cwd → (call : Result Decision) → revokeCall (linked (a .number) w) (a .memory) d p cwd ≡ call
-      → Steps a (calls.actsIn call) (revoking d p (calls.answerIn call))
+  pub revoke-steps : (d : Descriptor) (p cwd : List ℕ) → Bytes p → Bytes cwd → (call : Result Decision) → revokeCall (linked run (a .number) w) (a .memory) d p cwd ≡ call
+      → Steps run a (calls.actsIn call) (revoking run d p (calls.answerIn call))
   unfolding lineOf
   revoke-steps d p cwd b c call e =
       let acts = calls.actsIn call in
       record {
         step =
-            revokes w d p cwd (begun (sent a acts) w) (record { answer = calls.answerIn call; words = length (sent a acts) }) b c
-            (record { answer = rw e; sends = sends-of (a .number) (a .memory) w (rw e) })
+            revokes w d p cwd (begun (sent run a acts) w) (record { answer = calls.answerIn call; words = length (sent run a acts) }) b c
+            (record { answer = rw e; sends = sends-of run (a .number) (a .memory) w (rw e) })
             (rw e)
             (at-start _ _);
         is = refl;
       }
 
   pub child-steps : (c : List ℕ) (code : ℕ) (bytes ends responses cwd : List ℕ) → Bytes bytes → Bytes cwd → (call : Result Creation)
-      → childCall (linked (a .number) w) (a .memory) c code bytes ends responses cwd ≡ call
-      → Steps a (child-calls.actsIn call) (creating code bytes ends responses (outcomeOf (refusalIn call)))
+      → childCall (linked run (a .number) w) (a .memory) c code bytes ends responses cwd ≡ call
+      → Steps run a (child-calls.actsIn call) (creating run code bytes ends responses (outcomeOf (refusalIn call)))
   unfolding lineOf
   child-steps c code bytes ends responses cwd b d call e =
       let acts = child-calls.actsIn call in
       record {
         step =
-            creates c w code bytes ends responses cwd (childAfter call c) (begun (sent a acts) w)
-            (record { made = record { outcome = outcomeOf (refusalIn call); asked = child-calls.askedIn call }; words = length (sent a acts) })
+            creates c w code bytes ends responses cwd (childAfter call c) (begun (sent run a acts) w)
+            (record { made = record { outcome = outcomeOf (refusalIn call); asked = child-calls.askedIn call }; words = length (sent run a acts) })
             b
             d
-            (record { creates = record { outcome = rw e; asked = rw e; child = rw e }; sends = sends-of (a .number) (a .memory) w (rw e) })
+            (record { creates = record { outcome = rw e; asked = rw e; child = rw e }; sends = sends-of run (a .number) (a .memory) w (rw e) })
             (rw e)
             (at-start _ _);
         is = refl;
       }
 
-pub query-steps : (a : Main) (mode : ℕ) (d : Descriptor) (p cwd : List ℕ) (r : Answer) → r ≡ queryAnswer (a .memory) mode d p cwd
-    → Steps a [] (querying mode d p r)
+pub query-steps : (run : ℕ) (a : Main) (mode : ℕ) (d : Descriptor) (p cwd : List ℕ) (r : Answer) → r ≡ queryAnswer (a .memory) mode d p cwd
+    → Steps run a [] (querying mode d p r)
 unfolding lineOf doActs numbered allWords
-query-steps a mode d p cwd r e =
+query-steps run a mode d p cwd r e =
     let same : a .number + 0 ≡ a .number = omega arith in
     record { step = queries mode d p cwd r e (λ i. record { memory = a .memory; number = same i }) refl refl; is = refl }
 
 -- so has the image call
-abbrev answered : List ℕ → ℕ → List ℕ → ImageSent
-answered m n w = record { outcome = outcomeOf (causeOf (imageCall m n w)); words = sizeIn (tableIn m) }
+abbrev answered : List ℕ → ℕ → ℕ → List ℕ → ImageSent
+answered m run n w = record { outcome = outcomeOf (causeOf (imageCall m run n w)); words = sizeIn (tableIn m) }
 
-pub writes-image : (m : List ℕ) (n : ℕ) (w : List ℕ) → WritesImage m n w (begun (wordsIn (imageCall m n w)) w) (answered m n w)
-writes-image m n w = record { outcome = refl; words = refl; size = refl }
-
--- and any arrival
-pub arrives : (m words : List ℕ) (s : Numbers)
-    → Arrives m words s (doActs m (actsIn (arrival m words s))) (numbersIn (arrival m words s) s) (answerIn (arrival m words s))
-arrives m words s = record { answer = refl; memory = refl; numbers = refl }
-
-pub loads : (m words : List ℕ) (s : Numbers) → Loads m words s (memoryOf (loading m words s) m) (numbersOf (loading m words s) s) (answerOf (loading m words s))
-loads m words s = record { answer = refl; memory = refl; numbers = refl }
+pub writes-image : (m : List ℕ) (run n : ℕ) (w : List ℕ) → WritesImage m run n w (begun (wordsIn (imageCall m run n w)) w) (answered m run n w)
+writes-image m run n w = record { outcome = refl; words = refl; size = refl }
 
 -- ---- a main goes on
 
--- calls with these acts, messages and lines
-pub record Run (done : List Act) (sent : List Message) (lines : List Line) : Type 0 where
+-- calls with these runs, messages and lines
+pub record Course (runs : List Run) (sent : List Message) (lines : List Line) : Type 0 where
   pub main : Main
-  pub calls : Calls main done sent (allMessageWords sent)
+  pub calls : Calls main runs sent (allMessageWords sent)
   pub said : script calls ≡ lines
-  pub stands : Stands (main .memory) (applyActs fresh done)
   pub bytes : Bytes (main .memory)
-  pub number : main .number ≡ length done
 
-pub run-fresh : {m : List ℕ} → IsFresh m → Bytes m → Run [] [] []
-unfolding script allMessageWords applyActs
-run-fresh {m} f b = record {
-  main = record { memory = m; number = 0 };
-  calls = freshMain f refl;
-  said = refl;
-  stands = record { holding = f .holding; table = f .table };
-  bytes = b;
-  number = refl;
-}
+pub course-none : Course [] [] []
+unfolding script allMessageWords
+course-none = record { main = record { memory = []; number = 0 }; calls = noRun; said = refl; bytes = bytes-none }
 
-module _ {done : List Act} {sent : List Message} {lines : List Line} (R : Run done sent lines) where
-  pub run-then : {new : List Act} {line : Line} → Steps (R .main) new line → allFit (applyActs fresh done) new ≡ true
-      → Run (done ++ new) (sent ++ changesSent (numbered (length done) new)) (lines ++ line ∷ [])
+module _ {runs : List Run} {sent : List Message} {lines : List Line} (C : Course runs sent lines) where
+  -- a run begins, in the memory m
+  pub course-begins : (q : ℕ) {m : List ℕ} → tableBytes ≤ length m → Bytes m → isRun q ≡ true → Above q runs
+      → Course (record { number = q; acts = [] } ∷ runs) sent (lines ++ beginning q outcome.Done ∷ [])
   unfolding script
-  run-then {new} S f =
-      let told = changesSent (numbered (length done) new) in
+  course-begins q {m} long b known above =
+      let B : BeginsRun m q 0 (put fresh m) 0 outcome.Done = begins-fresh long known (makes-fresh long refl) in
       record {
-        main = after (R .main) new;
-        calls = thenCall {told = sent ++ told} {written = allMessageWords (sent ++ told)} (R .calls) (S .step) refl (rw (R .number))
-            (rw (words-append sent told, words-sent (numbered (length done) new), R .number));
-        said = rw (R .said, S .is);
-        stands = rw (applied-append fresh done new) (stands-then (R .stands) new f);
-        bytes = step-bytes (R .bytes) (R .stands .holding) (S .step);
-        number = omega (arith, R .number, length-append done new);
+        main = record { memory = put fresh m; number = 0 };
+        calls = thenRun (C .calls) m 0 q above B refl;
+        said = rw (C .said);
+        bytes = begin-bytes b B;
+      }
+
+  -- a beginning that is refused
+  pub course-refuses : (q : ℕ) (cause : Refusal) → beginCall (C .main .memory) q ≡ refused cause → Course runs sent (lines ++ beginning q (outcome.Refused cause) ∷ [])
+  unfolding script
+  course-refuses q cause e =
+      record { main = C .main; calls = thenNoRun (C .calls) q cause (begins-refused e); said = rw (C .said); bytes = C .bytes }
+
+-- the first run number, and one above that of one run
+pub above-none : {q : ℕ} → Above q []
+above-none = record { each = λ r m. absurd (List·Memᴰ·not-nil m) }
+
+pub above-one : {q : ℕ} (r : Run) → r .number < q → Above q (r ∷ [])
+above-one r h = record { each = λ s m. omega (arith, ap (λ (x : Run). x .number) (List·Memᴰ·eq-of-singleton m)) }
+
+-- a call may be handed its run's number
+pub own-number : (q : ℕ) → Handed q q
+own-number q = record { own = λ known. refl }
+
+module _ {r : Run} {runs : List Run} {sent : List Message} {lines : List Line} (C : Course (r ∷ runs) sent lines) where
+  main-in : MainIn (C .main) r
+  main-in = present-in (main-is (C .calls) .present)
+
+  pub stands-in : Stands (C .main .memory) (applyActs fresh (r .acts))
+  stands-in = record { holding = main-in .holding; table = main-in .table }
+
+  pub number-in : C .main .number ≡ length (r .acts)
+  number-in = main-in .counted
+
+  pub course-then : {run : ℕ} {new : List Act} {line : Line} → Handed (r .number) run → Steps run (C .main) new line
+      → Course (record { number = r .number; acts = r .acts ++ new } ∷ runs) (sent ++ changesSent (numbered run (length (r .acts)) new)) (lines ++ line ∷ [])
+  unfolding script
+  course-then {run} {new} H S =
+      let told = changesSent (numbered run (length (r .acts)) new) in
+      record {
+        main = after (C .main) new;
+        calls = thenCall {told = sent ++ told} {written = allMessageWords (sent ++ told)} (C .calls) run H (S .step) refl (rw number-in)
+            (rw (words-append sent told, words-sent (numbered run (length (r .acts)) new), number-in));
+        said = rw (C .said, S .is);
+        bytes = step-bytes (C .bytes) (main-in .holding) (S .step);
       }
 
   -- an image call that comes to this
-  pub run-image : (w : List ℕ) (call : Result Image) → imageCall (R .main .memory) (R .main .number) w ≡ call
-      → Run done (sent ++ imageSent call) (lines ++ imaging (length w) (outcomeOf (causeOf call)) (imageSize (applyActs fresh done)) ∷ [])
+  pub course-image : {run : ℕ} → Handed (r .number) run → (w : List ℕ) (call : Result Image) → imageCall (C .main .memory) run (C .main .number) w ≡ call
+      → Course (r ∷ runs) (sent ++ imageSent call) (lines ++ imaging run (length w) (outcomeOf (causeOf call)) (imageSize (applyActs fresh (r .acts))) ∷ [])
   unfolding script sizeIn
-  run-image w call e =
-      let W = writes-image (R .main .memory) (R .main .number) w in
+  course-image {run} H w call e =
+      let W = writes-image (C .main .memory) run (C .main .number) w in
       record {
-        main = R .main;
-        calls = thenImage {told = sent ++ imageSent call} {written = allMessageWords (sent ++ imageSent call)} (R .calls) w _ _ (R .bytes) W (rw e)
-            (rw (words-append sent (imageSent call), image-wrote (R .stands .holding) W, e, words-image call));
-        said = rw (R .said, e, table-in (R .stands));
-        stands = R .stands;
-        bytes = R .bytes;
-        number = R .number;
+        main = C .main;
+        calls = thenImage {told = sent ++ imageSent call} {written = allMessageWords (sent ++ imageSent call)} (C .calls) run H w _ _ (C .bytes) W (rw e)
+            (rw (words-append sent (imageSent call), image-wrote (main-in .holding) W, e, words-image call));
+        said = rw (C .said, e, table-in stands-in);
+        bytes = C .bytes;
       }
 
 -- ---- a standby goes on
+
+-- the numbers n, h, run and highest
+abbrev pub at : ℕ → ℕ → ℕ → ℕ → Numbers
+at n h run highest = record { n = n; h = h; run = run; highest = highest }
 
 -- arrivals of what was sent, with these answers, after which memory holds the table t
 pub record Followed (Arriving Loading : Promise) (sent came : List Message) (answers : List Arrival) (t : Table) (s : Numbers) : Type 0 where
@@ -246,83 +295,110 @@ pub record Followed (Arriving Loading : Promise) (sent came : List Message) (ans
   pub arrivals : Arrivals Arriving Loading sent (record { memory = memory; numbers = s }) came answers
   pub stands : Stands memory t
 
-pub followed-fresh : {Arriving Loading : Promise} {sent : List Message} {m : List ℕ} → IsFresh m → Followed Arriving Loading sent [] [] fresh (record { n = 0; h = 0 })
-followed-fresh {m = m} f = record { memory = m; arrivals = freshStandby f refl refl; stands = record { holding = f .holding; table = f .table } }
+pub followed-fresh : {Arriving Loading : Promise} {sent : List Message} {m : List ℕ} → IsFresh m
+    → Followed Arriving Loading sent [] [] fresh (at 0 0 0 0)
+followed-fresh {m = m} f = record { memory = m; arrivals = freshStandby f refl; stands = record { holding = f .holding; table = f .table } }
+
+-- what an arrival does to memory, and to the table in it: nothing, an act, an act on a fresh table, or an image's table in its place
+pub data Effect : Type 0 where
+  untouched : Effect
+  acting : Act → Effect
+  clearing : Act → Effect
+  replacing : Table → Effect
+
+unfoldable pub memoryBy : Effect → List ℕ → List ℕ
+memoryBy untouched m = m
+memoryBy (acting act) m = doAct m act
+memoryBy (clearing act) m = doAct (put fresh m) act
+memoryBy (replacing u) m = put u m
+
+unfoldable pub tableBy : Effect → Table → Table
+tableBy untouched t = t
+tableBy (acting act) t = applyAct t act
+tableBy (clearing act) t = applyAct fresh act
+tableBy (replacing u) t = u
+
+-- whether it leaves a table
+unfoldable pub fitsBy : Effect → Table → Bool
+fitsBy untouched t = true
+fitsBy (acting act) t = allFit t (act ∷ [])
+fitsBy (clearing act) t = allFit fresh (act ∷ [])
+fitsBy (replacing u) t = isTable u
+
+put-stands : (u : Table) {m : List ℕ} {t : Table} → Stands m t → isTable u ≡ true → Stands (put u m) u
+put-stands u {m} S v = let L = left-put m _ u v (long-of m (S .holding)) refl in record { holding = L .holding; table = L .table }
+
+stands-by : {m : List ℕ} {t : Table} → Stands m t → (x : Effect) → fitsBy x t ≡ true → Stands (memoryBy x m) (tableBy x t)
+unfolding memoryBy tableBy fitsBy doActs applyActs
+stands-by S untouched f = S
+stands-by S (acting act) f = stands-then S (act ∷ []) f
+stands-by S (clearing act) f = stands-then (put-stands fresh S fresh-table) (act ∷ []) f
+stands-by S (replacing u) f = put-stands u S f
 
 -- the table that arrivals meet
-abbrev met : Table → Numbers → Result Table
-met t s = unless (firstCause (when (ltb (s .h) (s .n)) NoTable ∷ [])) t
+abbrev standing : Table → Numbers → Result Table
+standing t s = unless (firstCause (when (conflict s) NoTable ∷ [])) t
 
-met-is : {m : List ℕ} {t : Table} → Stands m t → (s : Numbers) → standbyIn m s ≡ met t s
+standing-is : {m : List ℕ} {t : Table} → Stands m t → (s : Numbers) → standbyIn m s ≡ standing t s
 unfolding standbyIn firstCause
-met-is S s = rw (S .holding, S .table)
+standing-is S s = rw (S .holding, S .table)
 
--- what a record comes to
-abbrev next : Taking → Table → Numbers → Change → Result Taken
-next taking t s c = andThen (met t s) (λ t. andThen (wellFormed (readChange (changeWords c))) (λ c. taking t s c))
+-- what a change, and what an image, comes to in memory m
+abbrev pub next : Taking → Table → List ℕ → Numbers → Change → Result Left
+next taking t m s c = andThen (standing t s) (λ t. taking t m s c)
 
-pub followed-record : (taking : Taking) {Loading : Promise} {sent came : List Message} {answers : List Arrival} {t : Table} {s : Numbers}
-    → Followed (By taking) Loading sent came answers t s → (c : Change) → List·Memᴰ (changed c) sent → allFit t (actsIn (next taking t s c)) ≡ true
-    → Followed (By taking) Loading sent (came ++ changed c ∷ []) (answers ++ answerIn (next taking t s c) ∷ []) (applyActs t (actsIn (next taking t s c)))
-    (numbersIn (next taking t s c) s)
-followed-record taking {t = t} {s = s} F c member f =
-    let x = next taking t s c in
-    let e = met-is (F .stands) s in
-    let m′ = doActs (F .memory) (actsIn x) in
-    let comes : By taking (F .memory) (changeWords c) s m′ (numbersIn x s) (answerIn x) = record { answer = rw e; memory = rw e; numbers = rw e } in
-    record { memory = m′; arrivals = thenRecord (F .arrivals) member comes refl refl; stands = stands-then (F .stands) (actsIn x) f }
+abbrev pub nextImage : Bringing → Table → List ℕ → Numbers → Image → Result Left
+nextImage bringing t m s i = andThen (standing t s) (λ t. ok (bringing m s i))
 
--- what an image comes to, and the table that it leaves
-abbrev pub nextImage : Choosing → Table → Numbers → Image → Result (Option Image)
-nextImage choosing t s i = andThen (met t s) (λ t. ok (choosing t s i))
+-- in whatever memory, the numbers s become s′, with this effect and this answer
+abbrev pub Leaves : (List ℕ → Result Left) → Numbers → Effect → Arrival → Numbers → Type 0
+Leaves call s x r s′ = (m : List ℕ) → leftBy (call m) m s ≡ record { answer = r; memory = memoryBy x m; numbers = s′ }
 
-unfoldable pub tableAfter : Result (Option Image) → Table → Table
-tableAfter (refused cause) t = t
-tableAfter (ok none) t = t
-tableAfter (ok (some i)) t = i .table
+leaves-comes : (call : List ℕ → Result Left) {s s′ : Numbers} (x : Effect) {r : Arrival} → Leaves call s x r s′ → (m : List ℕ) {given : Result Left} → given ≡ call m
+    → Comes given m s (memoryBy x m) s′ r
+leaves-comes call {s} x L m e =
+    let is = sym (ap (λ (y : Result Left). leftBy y m s) e ∙ L m) in
+    record { answer = ap (λ (l : Left). l .answer) is; memory = ap (λ (l : Left). l .memory) is; numbers = ap (λ (l : Left). l .numbers) is }
 
-loading-is : (choosing : Choosing) {m : List ℕ} {t : Table} → Stands m t → (s : Numbers) {i : Image} → Writable i
-    → loadingBy choosing m (imageWords i) s ≡ nextImage choosing t s i
-unfolding isImage andThen
-loading-is choosing S s W = rw (met-is S s, image-read W)
+-- what was sent reads back
+change-legible : {runs : List Run} {c : Change} → Genuine runs (changed c) → readChange (changeWords c) ≡ some c
+change-legible {c = c} (change-is k C) = read-back c (C .readable)
 
-pub brings : (choosing : Choosing) {m : List ℕ} {t : Table} → Stands m t → (s : Numbers) {i : Image} → Writable i
-    → LoadBy choosing m (imageWords i) s (memoryOf (nextImage choosing t s i) m) (numbersOf (nextImage choosing t s i) s) (answerOf (nextImage choosing t s i))
-brings choosing S s W = let e = loading-is choosing S s W in record { answer = rw e; memory = rw e; numbers = rw e }
+image-legible : {runs : List Run} {i : Image} → Genuine runs (image i) → readImage (imageWords i) ≡ some i
+image-legible (image-is I) = image-read (I .writable)
 
-stands-loaded : {m : List ℕ} {t : Table} → Stands m t → (x : Result (Option Image)) → isTable (tableAfter x t) ≡ true → Stands (memoryOf x m) (tableAfter x t)
-unfolding tableAfter memoryOf
-stands-loaded S (refused cause) v = S
-stands-loaded S (ok none) v = S
-stands-loaded {m} S (ok (some i)) v = let L = left-put m _ (i .table) v (long-of m (S .holding)) refl in record { holding = L .holding; table = L .table }
+module _ {runs : List Run} {sent : List Message} {lines : List Line} (C : Course runs sent lines)
+    {came : List Message} {answers : List Arrival} {t : Table} {s : Numbers} where
+  pub followed-record : (taking : Taking) {Loading : Promise} (F : Followed (By taking) Loading sent came answers t s) {c : Change} → List·Memᴰ (changed c) sent
+      → (x : Effect) {r : Arrival} {s′ : Numbers} → Leaves (λ m. next taking t m s c) s x r s′ → fitsBy x t ≡ true
+      → Followed (By taking) Loading sent (came ++ changed c ∷ []) (answers ++ r ∷ []) (tableBy x t) s′
+  followed-record taking F {c} member x L f = record {
+    memory = memoryBy x (F .memory);
+    arrivals = thenRecord (F .arrivals) member (leaves-comes (λ m. next taking t m s c) x L (F .memory) is) refl refl;
+    stands = stands-by (F .stands) x f;
+  }
+    where
+      is : arrivalBy taking (F .memory) (changeWords c) s ≡ next taking t (F .memory) s c
+      is = unfold wellFormed andThen in rw (standing-is (F .stands) s, change-legible (genuine (main-is (C .calls)) (changed c) member))
 
--- by any promise that leaves the memory of x
-pub followed-load : {Arriving Loading : Promise} {sent came : List Message} {answers : List Arrival} {t : Table} {s : Numbers}
-    (F : Followed Arriving Loading sent came answers t s) (i : Image) → List·Memᴰ (image i) sent → (x : Result (Option Image)) {s′ : Numbers} {r : Arrival}
-    → isTable (tableAfter x t) ≡ true
-    → Loading (F .memory) (imageWords i) s (memoryOf x (F .memory)) s′ r
-    → Followed Arriving Loading sent (came ++ image i ∷ []) (answers ++ r ∷ []) (tableAfter x t) s′
-followed-load F i member x v P =
-    record { memory = memoryOf x (F .memory); arrivals = thenLoad (F .arrivals) member P refl refl; stands = stands-loaded (F .stands) x v }
-
-pub followed-image : (choosing : Choosing) {Arriving : Promise} {sent came : List Message} {answers : List Arrival} {t : Table} {s : Numbers}
-    → Followed Arriving (LoadBy choosing) sent came answers t s → (i : Image) → List·Memᴰ (image i) sent → Writable i
-    → isTable (tableAfter (nextImage choosing t s i) t) ≡ true
-    → Followed Arriving (LoadBy choosing) sent (came ++ image i ∷ []) (answers ++ answerOf (nextImage choosing t s i) ∷ [])
-    (tableAfter (nextImage choosing t s i) t) (numbersOf (nextImage choosing t s i) s)
-followed-image choosing {s = s} F i member W v = followed-load F i member _ v (brings choosing (F .stands) s W)
+  pub followed-image : (bringing : Bringing) {Arriving : Promise} (F : Followed Arriving (LoadBy bringing) sent came answers t s) {i : Image}
+      → List·Memᴰ (image i) sent → (x : Effect) {r : Arrival} {s′ : Numbers} → Leaves (λ m. nextImage bringing t m s i) s x r s′ → fitsBy x t ≡ true
+      → Followed Arriving (LoadBy bringing) sent (came ++ image i ∷ []) (answers ++ r ∷ []) (tableBy x t) s′
+  followed-image bringing F {i} member x L f = record {
+    memory = memoryBy x (F .memory);
+    arrivals = thenLoad (F .arrivals) member (leaves-comes (λ m. nextImage bringing t m s i) x L (F .memory) is) refl refl;
+    stands = stands-by (F .stands) x f;
+  }
+    where
+      is : loadingBy bringing (F .memory) (imageWords i) s ≡ nextImage bringing t (F .memory) s i
+      is = unfold isImage andThen in rw (standing-is (F .stands) s, image-legible (genuine (main-is (C .calls)) (image i) member))
 
 -- ---- memory
 
-bytes-space : (n : ℕ) → Bytes (spaceOf n)
+pub bytes-space : (n : ℕ) → Bytes (spaceOf n)
 unfolding spaceOf
 bytes-space zero = bytes-none
 bytes-space (suc n) = bytes-cons (omega arith) (bytes-space n)
 
 pub is-fresh : IsFresh (tableMemory fresh)
-unfolding isTable pathBytes every marksOf present any
-is-fresh = let S = memory-stands fresh refl in record { holding = S .holding; table = S .table }
-
-pub fresh-bytes : Bytes (tableMemory fresh)
-unfolding tableMemory isTable pathBytes every marksOf present any
-fresh-bytes = put-bytes fresh (bytes-space tableBytes) refl no-entry
+is-fresh = let S = memory-stands fresh fresh-table in record { holding = S .holding; table = S .table }

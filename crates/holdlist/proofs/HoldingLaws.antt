@@ -19,58 +19,51 @@ use Rattle.records.proofs.WrittenLaws.{written-first}
 use Rattle.refusals.specs.declared.Refusal.{Refusal}
 use Rattle.refusals.specs.Refusals.{Result, refused, ok, andThen}
 use Rattle.table.specs.declared.Numbering.the-variants.{Plain}
-use Rattle.table.specs.Memory.{tableOf, doActs}
+use Rattle.table.specs.Tables.{Table}
+use Rattle.table.specs.Acts.{Act}
+use Rattle.table.specs.Memory.{tableOf}
 use Rattle.table.specs.Calls.{recordSpace, carried}
 use Rattle.records.specs.Records.{Change, Read, changeWords, readFirst}
 use Rattle.standby.specs.declared.Numbers.{Numbers}
 use Rattle.standby.specs.declared.Arrival.{Arrival}
-use Rattle.standby.specs.Arriving.{Taken, applied, passedBy, arrival, answerIn, actsIn, numbersIn, Arrives}
-use Rattle.standby.proofs.ArrivingLaws.{arrival-by, taken-by}
+use Rattle.standby.specs.Arriving.{met, Left, applies, applied, arrival, leftBy, Comes, Arrives}
+use Rattle.standby.proofs.ArrivingLaws.{Taking, lower, waits, comes, repeats, early, next, taking, arrival-by}
 use Rattle.holdlist.specs.declared.Held.{Held}
 use Rattle.holdlist.specs.Holding.{Standing, wordsOf, stop, afterArrival, afterRecord, behind, afterNext, heldFrom, beginning, counted, heldOn, isRefused, heldArrived, standing, Holds}
 use Rattle.holdlist.proofs.WordLaws.{words-behind, first-decides}
 
 -- ---- a record that arrives
 
--- an arrival that answers a refusal is refused
-IfRefused : Result Taken → Type 0
-IfRefused call = isRefused (answerIn call) ≡ true → (cause : Refusal) × (call ≡ refused cause)
+-- the answer says whether an arrival is refused
+data Tells : Result Left → Type 0 where
+  stops : {cause : Refusal} → Tells (refused cause)
+  leaves : {left : Left} → isRefused (left .answer) ≡ false → Tells (ok left)
 
-if-refused : (cause : Refusal) → IfRefused (refused cause)
-unfolding IfRefused
-if-refused cause e = (cause, refl)
-
-if-step : {A : Type 0} (a : Result A) (f : A → Result Taken) → ((x : A) → IfRefused (f x)) → IfRefused (andThen a f)
+tells-applied : (m : List ℕ) (s : Numbers) (r : Result Act) → Tells (andThen r (λ act. ok (applies m s act)))
 unfolding andThen
-if-step (refused cause) f h = if-refused cause
-if-step (ok x) f h = h x
+tells-applied m s (refused cause) = stops
+tells-applied m s (ok act) = leaves refl
 
-if-arrival : (m words : List ℕ) (n : Numbers) → IfRefused (arrival m words n)
-unfolding IfRefused answerIn passedBy applied
-if-arrival m words n =
-    arrival-by m words n IfRefused if-refused (λ c e.
-    taken-by (tableOf m) n c IfRefused (λ l f. absurd (false≢true f)) (λ l f. absurd (false≢true f)) (λ l.
-    if-step (carried Plain (tableOf m) (c .act)) _ (λ act f. absurd (false≢true f))))
+tells-taken : {t : Table} {m : List ℕ} {s : Numbers} {c : Change} {call : Result Left} → Taking t m s c call → Tells call
+tells-taken (lower l) = leaves refl
+tells-taken (waits l other) = leaves refl
+tells-taken (comes l one) = leaves refl
+tells-taken (repeats q l) = leaves refl
+tells-taken (early q l) = leaves refl
+tells-taken {t} {m} {s} {c} (next q k) = unfold applied in tells-applied m s (carried Plain t (c .act))
 
--- any other takes the record's words
-takes-arrival : (call : Result Taken) (k : ℕ) (s : Standing) → isRefused (answerIn call) ≡ false
-    → afterArrival call k s ≡ record { memory = doActs (s .memory) (actsIn call); numbers = numbersIn call (s .numbers); words = s .words + k; stopped = false }
-unfolding afterArrival answerIn actsIn numbersIn
-takes-arrival (refused cause) k s e = absurd (false≢true (sym e))
-takes-arrival (ok t) k s e = refl
+tells-arrival : (m words : List ℕ) (s : Numbers) → Tells (arrival m words s)
+tells-arrival m words s = arrival-by m words s Tells (λ cause. stops) (λ c e. tells-taken (taking (tableOf m) m (met s (c .run) (c .number)) c))
 
-module _ {m : List ℕ} (words : List ℕ) (held : Held) {m′ : List ℕ} {n′ : Numbers} {a : Arrival} (A : Arrives m words (held .numbers) m′ n′ a) where
-  pub holds-arrived : {r : Held} → r ≡ heldArrived held (length words) n′ a → Holds (afterArrival (arrival m words (held .numbers)) (length words) (standing m held)) m′ r
-  unfolding heldArrived IfRefused afterArrival stop actsIn doActs
-  holds-arrived {r} f = go (isRefused a) refl
-    where
-      go : (b : Bool) → isRefused a ≡ b → Holds (afterArrival (arrival m words (held .numbers)) (length words) (standing m held)) m′ r
-      go true e =
-          let call = if-arrival m words (held .numbers) (sym (ap isRefused (A .answer)) ∙ e) .1 in
-          rw (call, f, e) (record { memory = A .memory ∙ rw call; numbers = refl; words = refl; stopped = refl })
-      go false e =
-          let call = takes-arrival (arrival m words (held .numbers)) (length words) (standing m held) (sym (ap isRefused (A .answer)) ∙ e) in
-          rw (call, f, e) (record { memory = A .memory; numbers = A .numbers; words = refl; stopped = refl })
+holds-told : {m : List ℕ} (k : ℕ) (held : Held) {m′ : List ℕ} {n′ : Numbers} {a : Arrival} {call : Result Left} → Tells call → Comes call m (held .numbers) m′ n′ a
+    → {r : Held} → r ≡ heldArrived held k n′ a → Holds (afterArrival call k (standing m held)) m′ r
+unfolding leftBy heldArrived afterArrival stop
+holds-told k held stops C f = rw (f, C .answer) (record { memory = C .memory; numbers = refl; words = refl; stopped = refl })
+holds-told k held (leaves e) C f = rw (f, C .answer, e) (record { memory = C .memory; numbers = C .numbers; words = refl; stopped = refl })
+
+pub holds-arrived : {m : List ℕ} (words : List ℕ) (held : Held) {m′ : List ℕ} {n′ : Numbers} {a : Arrival} → Arrives m words (held .numbers) m′ n′ a
+    → {r : Held} → r ≡ heldArrived held (length words) n′ a → Holds (afterArrival (arrival m words (held .numbers)) (length words) (standing m held)) m′ r
+holds-arrived {m} words held A f = holds-told (length words) held (tells-arrival m words (held .numbers)) A f
 
 -- ---- the record that bytes begin with
 
@@ -111,11 +104,11 @@ module _ (s : Standing) (bytes : List ℕ) {space words : List ℕ} {count : ℕ
         go none f g = next-by ∙ rw f
         go (some d) f g = let z : _≡_ {A = ℕ} 0 1 = cc in absurd (omega arith)
 
-    pub next-record : {number size end : ℕ} {action : Action} → r ≡ answer.Change number action size end → NextRecord s bytes words count end
+    pub next-record : {run number size end : ℕ} {action : Action} → r ≡ answer.Change run number action size end → NextRecord s bytes words count end
     unfolding recordAnswer afterRecord
-    next-record {number} {size} {end} {action} e = go (readFirst (take count words)) refl (sym e ∙ R .answer)
+    next-record {run} {number} {size} {end} {action} e = go (readFirst (take count words)) refl (sym e ∙ R .answer)
       where
-        go : (o : Option (Read Change)) → readFirst (take count words) ≡ o → answer.Change number action size end ≡ recordAnswer 0 o
+        go : (o : Option (Read Change)) → readFirst (take count words) ≡ o → answer.Change run number action size end ≡ recordAnswer 0 o
             → NextRecord s bytes words count end
         go none f g = let z : _≡_ {A = ℕ} 0 1 = cc in absurd (omega arith)
         go (some d) f g =
@@ -146,10 +139,10 @@ advances-stopped : (s : Standing) (left : ℕ) → Advances s (stop s) left
 unfolding stop
 advances-stopped s left = record { more = λ e. absurd (false≢true (sym e)); most = omega arith }
 
-advances-arrival : (call : Result Taken) (k : ℕ) (s : Standing) (left : ℕ) → 1 ≤ k → k ≤ left → Advances s (afterArrival call k s) left
+advances-arrival : (call : Result Left) (k : ℕ) (s : Standing) (left : ℕ) → 1 ≤ k → k ≤ left → Advances s (afterArrival call k s) left
 unfolding afterArrival
 advances-arrival (refused cause) k s left some-word few = advances-stopped s left
-advances-arrival (ok t) k s left some-word few = record { more = λ e. omega arith; most = omega arith }
+advances-arrival (ok r) k s left some-word few = record { more = λ e. omega arith; most = omega arith }
 
 advances-record : (ws : List ℕ) (s : Standing) (o : Option (Read Change)) → readFirst ws ≡ o → Advances s (afterRecord o s) (length ws)
 unfolding afterRecord changeWords

@@ -1,4 +1,4 @@
--- Whatever the input, memory that holds a table holds one afterwards, and n does not come above h.
+-- Whatever the input, memory that held a table holds one afterwards, and numbers that agreed agree.
 use Prim.Native.Nat.{ℕ, zero, suc, _≤_}
 use mathlib.Core.Path.{_≡_, refl, ap, _∙_}
 use mathlib.Core.List.{List}
@@ -8,14 +8,16 @@ use native.Mathlib.Omega.{arith}
 use lib.ListN.{length}
 use Rattle.refusals.specs.Refusals.{Result, refused, ok}
 use Rattle.table.specs.declared.Outcome.{Outcome}
-use Rattle.table.specs.Tables.{fresh, pathBytes, every, any, present, marksOf, isTable}
-use Rattle.table.specs.Memory.{tableBytes, holds, doActs}
+use Rattle.table.specs.Tables.{fresh}
+use Rattle.table.specs.Memory.{tableBytes, holds}
 use Rattle.table.specs.Calls.{MakesFresh}
+use Rattle.table.proofs.TableLaws.{fresh-table}
 use Rattle.table.proofs.Puts.{holds-put}
 use Rattle.table.proofs.CallLaws.{made-fresh}
 use Rattle.records.specs.Records.{Change, Read, changeWords, readFirst}
-use Rattle.standby.specs.Arriving.{Taken, actsIn, numbersIn}
-use Rattle.standby.proofs.KeepLaws.{Raises, arrival-acted, arrival-raises}
+use Rattle.standby.specs.Arriving.{Left, leftBy}
+use Rattle.standby.proofs.ArrivingLaws.{Agrees}
+use Rattle.standby.proofs.KeepLaws.{Kept, arrival-kept}
 use Rattle.holdlist.specs.declared.Held.{Held}
 use Rattle.holdlist.specs.declared.Input.{Input}
 use Rattle.holdlist.specs.declared.Input.the-variants as answer
@@ -25,25 +27,21 @@ use Rattle.holdlist.proofs.HoldingLaws.{holds-is, rests, held-still, he
 
 pub record Sound (s : Standing) : Type 0 where
   pub holding : holds (s .memory) ≡ true
-  pub ordered : s .numbers .n ≤ s .numbers .h
+  pub agreeing : Agrees (s .numbers)
 
 stopped : (s : Standing) → Sound s → Sound (stop s)
 unfolding stop
-stopped s S = record { holding = S .holding; ordered = S .ordered }
+stopped s S = record { holding = S .holding; agreeing = S .agreeing }
 
-after-arrival : (call : Result Taken) (k : ℕ) (s : Standing) → Sound s → holds (doActs (s .memory) (actsIn call)) ≡ true
-    → Raises (s .numbers) (numbersIn call (s .numbers)) → Sound (afterArrival call k s)
-unfolding afterArrival actsIn numbersIn
-after-arrival (refused cause) k s S a R = stopped s S
-after-arrival (ok t) k s S a R = record { holding = a; ordered = R .ordered (S .ordered) }
+after-arrival : (call : Result Left) (k : ℕ) (s : Standing) → Sound s → Kept (s .numbers) (leftBy call (s .memory) (s .numbers)) → Sound (afterArrival call k s)
+unfolding afterArrival leftBy
+after-arrival (refused cause) k s S K = stopped s S
+after-arrival (ok r) k s S K = record { holding = K .holding; agreeing = K .agreeing (S .agreeing) }
 
 after-record : (o : Option (Read Change)) (s : Standing) → Sound s → Sound (afterRecord o s)
 unfolding afterRecord
 after-record none s S = stopped s S
-after-record (some r) s S =
-    let words = changeWords (r .value) in
-    after-arrival _ _ s S (arrival-acted (s .memory) (S .holding) words (s .numbers) .holding)
-    (arrival-raises (s .memory) words (s .numbers) (record { answer = refl; memory = refl; numbers = refl }))
+after-record (some r) s S = after-arrival _ _ s S (arrival-kept (s .memory) (s .numbers) (S .holding) (changeWords (r .value)))
 
 after-next : (s : Standing) (input : List ℕ) → Sound s → Sound (afterNext s input)
 unfolding afterNext
@@ -59,14 +57,13 @@ after-held keep (suc turns) s input S = go (rests keep s input) refl (after-held
     go false e i = rw (held-step keep s input turns e) i
 
 -- a fresh table, and what the input makes of it
-fresh-table : isTable fresh ≡ true
-unfolding isTable pathBytes every marksOf present any
-fresh-table = refl
-
 pub input-kept : {m m₁ m₂ : List ℕ} {made : Outcome} {r : Input} {held : Held} → tableBytes ≤ length m → MakesFresh m m₁ made → HoldsInput m₁ m₂ r → r ≡ answer.Held held
     → Sound (standing m₂ held)
 input-kept l F unreadable e = let z : _≡_ {A = ℕ} 0 1 = cc in absurd (omega arith)
 input-kept {m} {m₁} {held = held} l F (all {r = r} input H) e =
     let same : held ≡ r = cc in
-    let first : Sound (beginning m₁ unnumbered) = record { holding = ap holds (made-fresh l F) ∙ holds-put fresh m fresh-table l; ordered = omega arith } in
+    let first : Sound (beginning m₁ unnumbered) = record {
+      holding = ap holds (made-fresh l F) ∙ holds-put fresh m fresh-table l;
+      agreeing = record { below = omega arith; ordered = λ f. omega arith };
+    } in
     rw (same, holds-is H) (after-held _ _ _ input first)

@@ -21,6 +21,7 @@ use Rattle.table.proofs.ReadingLaws.{first-in, first-from, from-entry, from-end
 use Rattle.standby.specs.declared.Numbers.{Numbers}
 use Rattle.standby.specs.declared.Owed.{Owed}
 use Rattle.standby.specs.declared.Owed.the-variants.{Changes, Refused}
+use Rattle.standby.specs.Arriving.{conflict}
 use Rattle.standby.specs.Owing.{owedOf, Owes}
 use Rattle.standby.proofs.OwingLaws.{owing-exact}
 use Rattle.holdlist.specs.Escaping.{escaped}
@@ -59,13 +60,13 @@ labelled-end label n A = omega (arith, A .end, length-append label (decimal n), 
 -- ---- what is owed
 
 -- the report says how much, and is not refused
-module _ (s : Numbers) (l : s .n ≤ s .h) {owed : Owed} (O : Owes s owed) where
+module _ (s : Numbers) (good : conflict s ≡ false) {owed : Owed} (O : Owes s owed) where
   pub owed-count : {k : ℕ} → owed ≡ Changes k → k ≡ owedOf s
-  owed-count {k} e = let told : Changes k ≡ Changes (owedOf s) = sym e ∙ O ∙ sym (owing-exact s l refl) in cc
+  owed-count {k} e = let told : Changes k ≡ Changes (owedOf s) = sym e ∙ O ∙ sym (owing-exact s good refl) in cc
 
   pub owed-unrefused : {cause : Refusal} → owed ≡ Refused cause → ⊥
   owed-unrefused {cause} e =
-      let told : Refused cause ≡ Changes (owedOf s) = sym e ∙ O ∙ sym (owing-exact s l refl) in
+      let told : Refused cause ≡ Changes (owedOf s) = sym e ∙ O ∙ sym (owing-exact s good refl) in
       let z : _≡_ {A = ℕ} 0 1 = cc in
       omega arith
 

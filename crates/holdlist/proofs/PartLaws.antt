@@ -12,7 +12,7 @@ use Rattle.refusals.specs.Refusals.{Result, refused, ok}
 use Rattle.table.specs.Calls.{recordSpace}
 use Rattle.records.specs.Records.{Change, Read, changeWords, readFirst}
 use Rattle.standby.specs.declared.Numbers.{Numbers}
-use Rattle.standby.specs.Arriving.{Taken, arrival}
+use Rattle.standby.specs.Arriving.{Left, arrival}
 use Rattle.holdlist.specs.Holding.{
   Standing,
   wordsOf,
@@ -79,10 +79,10 @@ counted-stop : (w : ℕ) (s : Standing) → stop (counted w s) ≡ counted w (st
 unfolding stop counted
 counted-stop w s = refl
 
-counted-arrival : (w : ℕ) (call : Result Taken) (k : ℕ) (s : Standing) → afterArrival call k (counted w s) ≡ counted w (afterArrival call k s)
+counted-arrival : (w : ℕ) (call : Result Left) (k : ℕ) (s : Standing) → afterArrival call k (counted w s) ≡ counted w (afterArrival call k s)
 unfolding afterArrival stop counted
 counted-arrival w (refused cause) k s = refl
-counted-arrival w (ok t) k s = rw (add-assoc w (s .words) k)
+counted-arrival w (ok r) k s = rw (add-assoc w (s .words) k)
 
 counted-record : (w : ℕ) (o : Option (Read Change)) (s : Standing) → afterRecord o (counted w s) ≡ counted w (afterRecord o s)
 unfolding afterRecord

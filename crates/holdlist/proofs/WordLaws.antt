@@ -1,4 +1,4 @@
--- Laws of words: those of some bytes by their places, and that the first 344 decide what the record is that words begin with.
+-- Laws of words: those of some bytes by their places, and that the first 345 decide what the record is that words begin with.
 use Prim.Native.Nat.{ℕ, zero, suc, _+_, _*_, _-_, _/_, _≤_, _<_, min}
 use mathlib.Core.Path.{_≡_, refl, sym, ap, _∙_}
 use mathlib.Core.List.{List, [], _∷_, _++_}
@@ -70,7 +70,7 @@ takes-words ws space count e p =
     ap (take count) (sym (take-append-drop (length space) ws)) ∙ take-at (take (length space) ws) (drop (length space) ws) count some-words in
     record { content = p ∙ paste-over space 0 ws count (omega arith) ∙ rw whole; end = omega (arith, some-words) }
 
--- ---- the first 344 words decide
+-- ---- the first 345 words decide
 
 module _ (ws ws′ : List ℕ) (same : take recordSpace ws ≡ take recordSpace ws′) where
   -- the record that words begin with

@@ -7,12 +7,11 @@ use mathlib.Core.Bool.{Bool, true, false, _||_, cond}
 use lib.ListN.{length, drop}
 use lib.Dec.{leb}
 use Rattle.refusals.specs.Refusals.{Result, refused, ok}
-use Rattle.table.specs.Memory.{doActs}
 use Rattle.records.specs.Records.{Change, Read, changeWords, readFirst}
 use Rattle.standby.specs.declared.Numbers.{Numbers}
 use Rattle.standby.specs.declared.Arrival.{Arrival}
-use Rattle.standby.specs.declared.Arrival.the-variants.{Applied, Repeat, Early, Taken as TakenImage, Refused}
-use Rattle.standby.specs.Arriving.{Taken, arrival}
+use Rattle.standby.specs.declared.Arrival.the-variants.{Applied, Repeat, Early, Taken, Refused}
+use Rattle.standby.specs.Arriving.{Left, arrival}
 use Rattle.holdlist.specs.declared.Held.{Held}
 
 -- ---- words
@@ -43,9 +42,9 @@ unfoldable pub stop : Standing → Standing
 stop s = record { memory = s .memory; numbers = s .numbers; words = s .words; stopped = true }
 
 -- a record of k words arrives; one that is refused ends reading
-unfoldable pub afterArrival : Result Taken → ℕ → Standing → Standing
+unfoldable pub afterArrival : Result Left → ℕ → Standing → Standing
 afterArrival (refused cause) k s = stop s
-afterArrival (ok t) k s = record { memory = doActs (s .memory) (t .acts); numbers = t .numbers; words = s .words + k; stopped = false }
+afterArrival (ok left) k s = record { memory = left .memory; numbers = left .numbers; words = s .words + k; stopped = false }
 
 -- the record that the words begin with ends where its own act and length say; a malformed one ends reading
 unfoldable pub afterRecord : Option (Read Change) → Standing → Standing
@@ -67,7 +66,7 @@ heldFrom keep (suc turns) s input =
 
 -- a fresh standby's numbers
 abbrev pub unnumbered : Numbers
-unnumbered = record { n = 0; h = 0 }
+unnumbered = record { n = 0; h = 0; run = 0; highest = 0 }
 
 -- memory m and the numbers s before any of the input
 abbrev pub beginning : List ℕ → Numbers → Standing
@@ -79,9 +78,9 @@ held m s input = heldFrom 0 (length input) (beginning m s) input
 
 -- ---- part by part
 
--- a record has at most 344 words; where no more bytes than these are left of a part, the record there may go on in the next one
+-- a record has at most 345 words; where no more bytes than these are left of a part, the record there may go on in the next one
 abbrev pub keptBytes : ℕ
-keptBytes = 1375
+keptBytes = 1379
 
 -- behind w words of the input
 unfoldable pub counted : ℕ → Standing → Standing
@@ -98,7 +97,7 @@ abbrev pub isRefused : Arrival → Bool
 isRefused Applied = false
 isRefused Repeat = false
 isRefused Early = false
-isRefused TakenImage = false
+isRefused Taken = false
 isRefused (Refused cause) = true
 
 -- what was held, once k words arrived with this answer and left these numbers

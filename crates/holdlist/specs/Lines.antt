@@ -37,7 +37,7 @@ decimal n = decimalBy 20 n
 abbrev pub labelled : String → ℕ → List ℕ
 labelled label n = text label ++ decimal n
 
--- n is not above h in a standby that was fresh: `input-kept`
+-- a standby that was fresh has numbers that agree, so that what it is owed is told: `input-kept`
 unfoldable pub header : Table → Numbers → List ℕ
 header t s =
     labelled "entries " (length (t .entries)) ++ labelled " changes " (s .n) ++ labelled " owed " (owedOf s) ++ labelled " switches " (t .switches)

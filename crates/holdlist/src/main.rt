@@ -18,8 +18,8 @@ ghost use Rattle.holdlist.specs.Input.{bufferBytes, ReadsBehind, HoldsIn
 mod printing;
 mod reading;
 
-// A record has at most 344 words. Where no more bytes than these are left, the record there may go on in the next part of the input.
-const KEPT_BYTES: usize = 1375;
+// A record has at most 345 words. Where no more bytes than these are left, the record there may go on in the next part of the input.
+const KEPT_BYTES: usize = 1379;
 
 // A proved loop has to end, and nothing says that the input does: so many reads, more than any run makes.
 const READS: u64 = 0x1_0000_0000_0000;
@@ -61,7 +61,12 @@ fn hold_input(mem: &mut [u8], buffer: &mut [u8]) -> Input
     ensures { λ r. ⌜ HoldsInput (now (mem .entry)) (now (mem .exit)) r ⌝ }
 {
     let mut held = Held {
-        numbers: Numbers { n: 0, h: 0 },
+        numbers: Numbers {
+            n: 0,
+            h: 0,
+            run: 0,
+            highest: 0,
+        },
         words: 0,
         stopped: false,
     };

@@ -9,12 +9,13 @@ use table::listing;
 use table::reading;
 ghost use mathlib.Core.Path.{_≡_};
 ghost use mathlib.Core.List.{_++_};
-ghost use mathlib.Core.Bool.{true};
+ghost use mathlib.Core.Bool.{true, false};
 ghost use Prim.Native.Nat.{_+_, _*_, _<_, _≤_};
 ghost use lib.ListN.{length};
 ghost use Rattle.paths.specs.Copying.{Appends};
 ghost use Rattle.table.specs.Tables.{pathBytes};
 ghost use Rattle.table.specs.Memory.{tableOf, holds};
+ghost use Rattle.standby.specs.Arriving.{conflict};
 ghost use Rattle.standby.specs.Owing.{owedOf};
 ghost use Rattle.holdlist.specs.Escaping.{isPlain, digit, escapedByte, escaped};
 ghost use Rattle.holdlist.specs.Holding.{standing};
@@ -89,9 +90,9 @@ fn append_labelled(space: &mut [u8], at: usize, label: &[u8], n: u64) -> usize
     append(space, from, &digits[..k])
 }
 
-// How many changes are owed, where n is not above h.
+// How many changes are owed, where the numbers are a standby's.
 fn count_owed(numbers: Numbers) -> u64
-    requires { ⌜ numbers .n ≤ numbers .h ⌝ }
+    requires { ⌜ conflict numbers ≡ false ⌝ }
     ensures { λ r. ⌜ r ≡ owedOf numbers ⌝ }
 {
     match owed(numbers) {
@@ -104,7 +105,7 @@ fn count_owed(numbers: Numbers) -> u64
 
 // Writes the header from the space's start.
 fn write_header(space: &mut [u8], mem: &[u8], numbers: Numbers) -> usize
-    requires { ⌜ (holds (now mem) ≡ true) × (numbers .n ≤ numbers .h) × (141 ≤ length (now space)) ⌝ }
+    requires { ⌜ (holds (now mem) ≡ true) × (conflict numbers ≡ false) × (141 ≤ length (now space)) ⌝ }
     ensures { λ r. ⌜ Appends (header (tableOf (now (mem .entry))) numbers) (now (space .entry)) 0 (now (space .exit)) r ⌝ }
 {
     let counted = append_labelled(space, 0, b"entries ", listing::count(mem) as u64);
@@ -164,7 +165,7 @@ fn append_stopped(space: &mut [u8], at: usize, words: usize) -> usize
 
 // Writes all that is printed from the space's start, and says how many bytes that is.
 pub fn write_listing(space: &mut [u8], mem: &[u8], held: Held) -> usize
-    requires { ⌜ (holds (now mem) ≡ true) × (held .numbers .n ≤ held .numbers .h) × (listingBytes ≤ length (now space)) ⌝ }
+    requires { ⌜ (holds (now mem) ≡ true) × (conflict (held .numbers) ≡ false) × (listingBytes ≤ length (now space)) ⌝ }
     ensures { λ r. ⌜ Appends (listing (standing (now (mem .entry)) held)) (now (space .entry)) 0 (now (space .exit)) r ⌝ }
 {
     let numbers = held.numbers;

@@ -109,7 +109,7 @@ fn hold_next(mem: &mut [u8], held: Held, bytes: &[u8]) -> Held
     let mut space = [0u8; MAX_PATH];
     match read_record(&words[..count], 0, &mut space) {
         Record::Malformed => stop(held),
-        Record::Change(_, _, _, end) => hold_record(mem, held, &words[..end]),
+        Record::Change(_, _, _, _, end) => hold_record(mem, held, &words[..end]),
     }
 }
 

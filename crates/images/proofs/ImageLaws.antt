@@ -1,4 +1,4 @@
--- An image has at most 11,351 words and reads back as itself, and a table that memory holds has one.
+-- An image has at most 11,352 words and reads back as itself, and a table that memory holds has one.
 use Prim.Native.Nat.{ℕ, zero, suc, _+_, _*_, _/_, _≤_}
 use mathlib.Core.Path.{_≡_, refl, sym, ap, _∙_}
 use mathlib.Core.List.{List, [], _∷_, _++_, append-nil, append-assoc}
@@ -16,13 +16,13 @@ use Rattle.paths.proofs.ComponentLaws.{and-left, and-right}
 use Rattle.table.specs.declared.Kind.{Kind}
 use Rattle.table.specs.Entries.{Entry, kindNumber}
 use Rattle.table.specs.Tables.{Table, maxEntries, maxSwitches, pathBytes, isEntry, every, isTable}
-use Rattle.table.specs.Memory.{wordAt, lenAt, nextAt, entriesAt, tableOf, holds}
+use Rattle.table.specs.Memory.{wordAt, lenAt, nextAt, entriesAt, tableOf}
 use Rattle.table.specs.Carrying.{maxNumber}
 use Rattle.table.proofs.TableLaws.{valid-parts, marks-small}
 use Rattle.table.proofs.Within.{kind-number, number-small}
 use Rattle.records.specs.Records.{actUnit, numberBits, ifResolved}
 use Rattle.records.specs.Steps.{wordsFor}
-use Rattle.records.proofs.RecordLaws.{path-back, path-count, path-short, not-empty}
+use Rattle.records.proofs.RecordLaws.{run-low, word-run, path-back, path-count, path-short, not-empty}
 use Rattle.images.specs.Images.{
   Image,
   numberKind,
@@ -55,6 +55,7 @@ use Rattle.images.specs.Images.{
   readEntries,
   imageIf,
   withEntries,
+  readTable,
   readImage,
 }
 
@@ -147,7 +148,7 @@ module _ (switches marks count : ℕ) (s : switches ≤ maxSwitches) (m : marks 
   table-count = omega arith
 
 pub image-read : {i : Image} → Writable i → readImage (imageWords i) ≡ some i
-unfolding readImage imageWords withEntries imageIf
+unfolding readImage readTable imageWords withEntries imageIf
 image-read {i} W =
     let t = i .table in
     let K = valid-parts t (W .within) in
@@ -155,6 +156,8 @@ image-read {i} W =
     let count = length (t .entries) in
     let entries = ap (readEntries count) (sym (append-nil (allEntryWords (t .entries)))) ∙ entries-read [] (K .each) (W .bytes) in
     rw (
+      word-run (i .run) (W .ofRun),
+      run-low (i .run) (W .ofRun),
       number-word (i .number) (W .few),
       number-back (i .number) (W .few),
       table-word (t .switches) (t .marks) count (K .switches) marks (K .few),

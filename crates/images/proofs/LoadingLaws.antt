@@ -54,12 +54,12 @@ abbrev pub entriesOf : {image : Option Image} {switches marks count : ℕ} → I
 entriesOf R = R .value .table .entries
 
 pub loading-start : {ws : List ℕ} {switches marks count : ℕ} (R : IsRead (readImage ws) switches marks count) (m : List ℕ) → tableBytes ≤ length m
-    → Loading ws (entriesOf R) m m 2 4 count
+    → Loading ws (entriesOf R) m m 3 4 count
 unfolding imageWords
 loading-start {ws} R m long =
     let es = entriesOf R in
     let W = image-writable ws (R .is) in
-    let words : drop 2 ws ≡ allEntryWords es ++ [] = ap (drop 2) (sym (image-written ws (R .is))) ∙ sym (append-nil (allEntryWords es)) in
+    let words : drop 3 ws ≡ allEntryWords es ++ [] = ap (drop 3) (sym (image-written ws (R .is))) ∙ sym (append-nil (allEntryWords es)) in
     record {
       rest = es;
       reads = (λ i. readEntries (R .same-count i) (words i)) ∙ entries-read [] (valid-parts _ (W .within) .each) (W .bytes);

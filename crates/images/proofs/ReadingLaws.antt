@@ -23,9 +23,10 @@ use Rattle.records.specs.declared.words.Word.the-variants.{Is, End}
 use Rattle.records.specs.declared.words.Front.{Front}
 use Rattle.records.specs.Records.{actUnit, numberBits, Read, bytesFrom, ifResolved}
 use Rattle.records.specs.Words.{firstWord, frontAt}
-use Rattle.records.specs.Steps.{pathAnswer, pathInto, ReadsPath}
-use Rattle.records.proofs.WordLaws.{from-place, no-word, Stands, stands, headed}
+use Rattle.records.specs.Steps.{runOf, pathAnswer, pathInto, ReadsPath}
+use Rattle.records.proofs.WordLaws.{from-place, no-word, Stands, stands, OfRun, run-alone, headed}
 use Rattle.records.proofs.RecordLaws.{path-short}
+use Rattle.records.proofs.ReadingLaws.{no-run-word}
 use Rattle.images.specs.declared.EntryRead.{EntryRead}
 use Rattle.images.specs.declared.EntryRead.the-variants as entry-answer
 use Rattle.images.specs.declared.ImageRead.the-variants as answer
@@ -50,6 +51,7 @@ use Rattle.images.specs.Images.{
   readEntries,
   imageIf,
   withEntries,
+  readTable,
   readImage,
 }
 use Rattle.images.specs.Steps.{kindEntry, entryAnswer, entryInto, ReadsEntry, isEnd, areEntries, imageAnswer, IsRead}
@@ -237,83 +239,98 @@ and-on true = refl
 and-on false = refl
 
 -- what the test of its entries says is whether the content of words is a table
-table-if : (number switches marks : ℕ) (r : Read (List Entry)) → switches ≤ maxSwitches → length (r .value) ≤ maxEntries → every isEntry (r .value) ≡ true
-    → withEntries number switches marks (some r)
-    ≡ cond (areEntries marks (some r)) (some (record { number = number; table = record { entries = r .value; switches = switches; marks = marks } })) none
+table-if : (run number switches marks : ℕ) (r : Read (List Entry)) → switches ≤ maxSwitches → length (r .value) ≤ maxEntries → every isEntry (r .value) ≡ true
+    → withEntries run number switches marks (some r)
+    ≡ cond (areEntries marks (some r)) (some (record { run = run; number = number; table = record { entries = r .value; switches = switches; marks = marks } })) none
 unfolding withEntries imageIf areEntries isEnd isTable
-table-if number switches marks r low few each = go (r .rest) refl
+table-if run number switches marks r low few each = go (r .rest) refl
   where
     bytes : Bool
     bytes = leb (pathBytes (r .value)) maxPathBytes
 
     go : (rest : List ℕ) → r .rest ≡ rest
-        → imageIf (record { number = number; table = record { entries = r .value; switches = switches; marks = marks } }) rest
-        ≡ cond (isEnd rest && leb (pathBytes (r .value)) maxPathBytes && eqb marks (marksOf (r .value))) (some (record { number = number; table = record { entries = r .value; switches = switches; marks = marks } })) none
+        → imageIf (record { run = run; number = number; table = record { entries = r .value; switches = switches; marks = marks } }) rest
+        ≡ cond (isEnd rest && leb (pathBytes (r .value)) maxPathBytes && eqb marks (marksOf (r .value))) (some (record { run = run; number = number; table = record { entries = r .value; switches = switches; marks = marks } })) none
     go [] e = rw (le-leb (length (r .value)) maxEntries few, each, le-leb switches maxSwitches low, and-on (leb (pathBytes (r .value)) maxPathBytes), and-on (leb (pathBytes (r .value)) maxPathBytes))
     go (w ∷ ws) e = refl
 
-answered : (number switches marks count : ℕ) (ws : List ℕ) → switches ≤ maxSwitches → count ≤ maxEntries
-    → imageAnswer (withEntries number switches marks (readEntries count ws))
-    ≡ cond (areEntries marks (readEntries count ws)) (answer.Image number switches marks count) answer.Malformed
+answered : (run number switches marks count : ℕ) (ws : List ℕ) → switches ≤ maxSwitches → count ≤ maxEntries
+    → imageAnswer (withEntries run number switches marks (readEntries count ws))
+    ≡ cond (areEntries marks (readEntries count ws)) (answer.Image run number switches marks count) answer.Malformed
 unfolding withEntries imageAnswer areEntries
-answered number switches marks count ws low few = go (readEntries count ws) refl
+answered run number switches marks count ws low few = go (readEntries count ws) refl
   where
     picked : (b : Bool) (i : Image) → imageAnswer (cond b (some i) none) ≡ cond b (imageAnswer (some i)) answer.Malformed
     picked true i = refl
     picked false i = refl
 
     go : (o : Option (Read (List Entry))) → readEntries count ws ≡ o
-        → imageAnswer (withEntries number switches marks o) ≡ cond (areEntries marks o) (answer.Image number switches marks count) answer.Malformed
+        → imageAnswer (withEntries run number switches marks o) ≡ cond (areEntries marks o) (answer.Image run number switches marks count) answer.Malformed
     go none e = refl
     go (some r) e =
         let W = entries-written count ws e in
-        ap imageAnswer (table-if number switches marks r low (omega (arith, W .count)) (W .each))
+        ap imageAnswer (table-if run number switches marks r low (omega (arith, W .count)) (W .each))
         ∙ picked (areEntries marks (some r)) _
         ∙ rw (W .count)
 
 -- more entries than a table has
-too-many : (number switches marks count : ℕ) (ws : List ℕ) → maxEntries < count → withEntries number switches marks (readEntries count ws) ≡ none
+too-many : (run number switches marks count : ℕ) (ws : List ℕ) → maxEntries < count → withEntries run number switches marks (readEntries count ws) ≡ none
 unfolding withEntries imageIf isTable
-too-many number switches marks count ws many = go (readEntries count ws) refl
+too-many run number switches marks count ws many = go (readEntries count ws) refl
   where
     full : (r : Read (List Entry)) (rest : List ℕ) → maxEntries < length (r .value)
-        → imageIf (record { number = number; table = record { entries = r .value; switches = switches; marks = marks } }) rest ≡ none
+        → imageIf (record { run = run; number = number; table = record { entries = r .value; switches = switches; marks = marks } }) rest ≡ none
     full r [] h = rw (lt-leb (length (r .value)) maxEntries h)
     full r (w ∷ ws) h = refl
 
-    go : (o : Option (Read (List Entry))) → readEntries count ws ≡ o → withEntries number switches marks o ≡ none
+    go : (o : Option (Read (List Entry))) → readEntries count ws ≡ o → withEntries run number switches marks o ≡ none
     go none e = refl
     go (some r) e = full r (r .rest) (omega (arith, entries-written count ws e .count))
 
-pub no-number-word : (ws : List ℕ) {f : Front} → f ≡ frontAt ws 0 → f .head ≡ End → answer.Malformed ≡ imageAnswer (readImage ws)
-unfolding readImage imageAnswer
-no-number-word ws F e = rw (no-word ws (sym (ap (λ (g : Front). g .head) F) ∙ e))
+-- ---- an image by its front
 
--- the first two words are a and b, and the entries begin at `at`
-pub record Fronted (ws : List ℕ) (a b at : ℕ) : Type 0 where
-  pub words : ws ≡ a ∷ b ∷ drop at ws
+run-missing : (ws : List ℕ) → runOf (firstWord ws) ≡ 0 → readImage ws ≡ none
+unfolding firstWord readImage
+run-missing [] e = refl
+run-missing (w ∷ ws) e = rw (no-run-word w e)
+
+-- the first word says the run, a and b follow it, and the entries begin at `at`
+pub record Fronted (ws : List ℕ) (run a b at : ℕ) : Type 0 where
+  pub reads : readImage ws ≡ readTable run (a ∷ b ∷ drop at ws)
   pub inside : at ≤ length ws
 
-pub no-table-word : (ws : List ℕ) {a : ℕ} {f : Front} → f ≡ frontAt ws 0 → f .head ≡ Is a → f .second ≡ End → answer.Malformed ≡ imageAnswer (readImage ws)
-unfolding readImage imageAnswer
-no-table-word ws {a} F e g =
-    let H = headed ws 0 F e in
-    rw (H .words ∙ ap (λ (l : List ℕ). a ∷ l) (no-word (drop 1 ws) (sym (H .second) ∙ g)))
+module _ (ws : List ℕ) {run : ℕ} {f : Front} (F : f ≡ frontAt ws 0) where
+  pub without-run : run ≡ runOf (f .run) → run ≡ 0 → answer.Malformed ≡ imageAnswer (readImage ws)
+  unfolding imageAnswer
+  without-run r z = rw (run-missing ws (ap (λ (g : Front). runOf (g .run)) (sym F) ∙ sym r ∙ z))
 
-pub fronted : (ws : List ℕ) {a b : ℕ} {f : Front} → f ≡ frontAt ws 0 → f .head ≡ Is a → f .second ≡ Is b → Fronted ws a b (f .at)
-fronted ws {a} {b} {f} F e g =
-    let H = headed ws 0 F e in
-    let S = stands ws 1 (sym (H .second) ∙ g) (H .behind) in
-    record {
-      words = H .words ∙ ap (λ (l : List ℕ). a ∷ l) (S .words ∙ ap (λ (k : ℕ). b ∷ drop k ws) (sym (S .next)));
-      inside = omega (arith, S .here, S .next);
-    }
+  module _ (R : OfRun (f .run) run) where
+    pub no-number-word : f .head ≡ End → answer.Malformed ≡ imageAnswer (readImage ws)
+    unfolding readImage readTable imageAnswer
+    no-number-word e = rw (run-alone ws 0 F R e, R .right)
 
-module _ {ws : List ℕ} {a b at : ℕ} (F : Fronted ws a b at) where
+    pub no-table-word : {a : ℕ} → f .head ≡ Is a → f .next ≡ End → answer.Malformed ≡ imageAnswer (readImage ws)
+    unfolding readImage readTable imageAnswer
+    no-table-word {a} e g =
+        let H = headed ws 0 F R e in
+        rw (H .words ∙ ap (λ (l : List ℕ). H .ofRun .value ∷ a ∷ l) (no-word (drop 2 ws) (sym (H .next) ∙ g)), H .ofRun .right)
+
+    pub fronted : {a b : ℕ} → f .head ≡ Is a → f .next ≡ Is b → Fronted ws run a b (f .at)
+    unfolding readImage
+    fronted {a} {b} e g =
+        let H = headed ws 0 F R e in
+        let S = stands ws 2 (sym (H .next) ∙ g) (H .behind) in
+        let behind = S .words ∙ ap (λ (k : ℕ). b ∷ drop k ws) (sym (S .next)) in
+        record {
+          reads = ap readImage (H .words) ∙ rw (H .ofRun .right, ← H .ofRun .low) (ap (λ (l : List ℕ). readTable run (a ∷ l)) behind);
+          inside = omega (arith, S .here, S .next);
+        }
+
+module _ {ws : List ℕ} {run a b at : ℕ} (F : Fronted ws run a b at) where
   image-as : readImage ws
-      ≡ cond (isNumberWord a && isTableWord b) (withEntries (numberBits a) (switchesBits b) (marksBits b) (readEntries (countBits b) (drop at ws))) none
-  unfolding readImage
-  image-as = ap readImage (F .words)
+      ≡ cond (isNumberWord a && isTableWord b) (withEntries run (numberBits a) (switchesBits b) (marksBits b) (readEntries (countBits b) (drop at ws))) none
+  unfolding readTable
+  image-as = F .reads
 
   pub number-other : (a / actUnit ≡ numberKind * 16 → ⊥) → answer.Malformed ≡ imageAnswer (readImage ws)
   unfolding isNumberWord imageAnswer
@@ -324,25 +341,25 @@ module _ {ws : List ℕ} {a b at : ℕ} (F : Fronted ws a b at) where
   table-other k = let e : readImage ws ≡ none = image-as ∙ rw (ne-eqb (b / 131072) (tableKind * 2048) k, and-off (isNumberWord a)) in rw e
 
   module _ (n : a / actUnit ≡ numberKind * 16) (t : b / 131072 ≡ tableKind * 2048) where
-    image-is : readImage ws ≡ withEntries (numberBits a) (switchesBits b) (marksBits b) (readEntries (countBits b) (drop at ws))
+    image-is : readImage ws ≡ withEntries run (numberBits a) (switchesBits b) (marksBits b) (readEntries (countBits b) (drop at ws))
     unfolding isNumberWord isTableWord
     image-is = image-as ∙ rw (eq-eqb (a / actUnit) (numberKind * 16) n, eq-eqb (b / 131072) (tableKind * 2048) t)
 
     pub image-many : maxEntries < countBits b → answer.Malformed ≡ imageAnswer (readImage ws)
     unfolding imageAnswer
-    image-many h = sym (ap imageAnswer (image-is ∙ too-many (numberBits a) (switchesBits b) (marksBits b) (countBits b) (drop at ws) h))
+    image-many h = sym (ap imageAnswer (image-is ∙ too-many run (numberBits a) (switchesBits b) (marksBits b) (countBits b) (drop at ws) h))
 
     module _ (few : countBits b ≤ maxEntries) {r : Bool} (e : r ≡ areEntries (marksBits b) (readEntries (countBits b) (drop at ws))) where
-      told-by : imageAnswer (readImage ws) ≡ cond r (answer.Image (numberBits a) (switchesBits b) (marksBits b) (countBits b)) answer.Malformed
+      told-by : imageAnswer (readImage ws) ≡ cond r (answer.Image run (numberBits a) (switchesBits b) (marksBits b) (countBits b)) answer.Malformed
       told-by =
           ap imageAnswer image-is
-          ∙ answered (numberBits a) (switchesBits b) (marksBits b) (countBits b) (drop at ws) (omega arith) few
-          ∙ ap (λ (x : Bool). cond x (answer.Image (numberBits a) (switchesBits b) (marksBits b) (countBits b)) answer.Malformed) (sym e)
+          ∙ answered run (numberBits a) (switchesBits b) (marksBits b) (countBits b) (drop at ws) (omega arith) few
+          ∙ ap (λ (x : Bool). cond x (answer.Image run (numberBits a) (switchesBits b) (marksBits b) (countBits b)) answer.Malformed) (sym e)
 
       pub image-refused : r ≡ false → answer.Malformed ≡ imageAnswer (readImage ws)
       image-refused f = sym (told-by ∙ rw f)
 
-      pub image-taken : r ≡ true → answer.Image (numberBits a) (switchesBits b) (marksBits b) (countBits b) ≡ imageAnswer (readImage ws)
+      pub image-taken : r ≡ true → answer.Image run (numberBits a) (switchesBits b) (marksBits b) (countBits b) ≡ imageAnswer (readImage ws)
       image-taken f = sym (told-by ∙ rw f)
 
 -- what the answer tells of the image that was read
@@ -351,11 +368,17 @@ unfolding imageAnswer
 no-image-told none e = refl
 no-image-told (some i) e = let z : _≡_ {A = ℕ} 0 1 = cc in absurd (omega arith)
 
-pub record ImageTold (o : Option Image) (number switches marks count : ℕ) : Type 0 where
+pub record ImageTold (o : Option Image) (run number switches marks count : ℕ) : Type 0 where
   pub read : IsRead o switches marks count
+  pub same-run : run ≡ read .value .run
   pub same-number : number ≡ read .value .number
 
-pub image-told : (o : Option Image) {number switches marks count : ℕ} → answer.Image number switches marks count ≡ imageAnswer o → ImageTold o number switches marks count
+pub image-told : (o : Option Image) {run number switches marks count : ℕ} → answer.Image run number switches marks count ≡ imageAnswer o
+    → ImageTold o run number switches marks count
 unfolding imageAnswer
 image-told none e = let z : _≡_ {A = ℕ} 0 1 = cc in absurd (omega arith)
-image-told (some i) e = record { read = record { value = i; is = refl; same-switches = cc; same-marks = cc; same-count = cc }; same-number = cc }
+image-told (some i) e = record {
+  read = record { value = i; is = refl; same-switches = cc; same-marks = cc; same-count = cc };
+  same-run = cc;
+  same-number = cc;
+}

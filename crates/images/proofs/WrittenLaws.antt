@@ -1,4 +1,4 @@
--- Words that are not malformed are the writing of what was read, and what was read can be written: a table with its number has one image.
+-- Words that are not malformed are the writing of what was read, and what was read can be written: a table with its run and number has one image.
 use Prim.Native.Nat.{ℕ, zero, suc, _*_, _/_, _≤_}
 use mathlib.Core.Path.{_≡_, refl, sym, ap, subst, _∙_}
 use mathlib.Core.List.{List, [], _∷_, _++_, append-nil, append-assoc}
@@ -18,8 +18,8 @@ use Rattle.table.specs.Tables.{isEntry, every, isTable}
 use Rattle.table.specs.Memory.{kindFrom}
 use Rattle.table.specs.Carrying.{maxNumber}
 use Rattle.table.proofs.Within.{number-kind}
-use Rattle.records.specs.Records.{actUnit, numberBits, Read, bytesFrom, ifResolved}
-use Rattle.records.proofs.WrittenLaws.{never, if-some, bytes-read}
+use Rattle.records.specs.Records.{actUnit, isRunWord, lowOfWord, numberBits, Read, bytesFrom, ifResolved}
+use Rattle.records.proofs.WrittenLaws.{never, if-some, run-word, run-right, bytes-read}
 use Rattle.images.specs.Images.{
   Image,
   numberKind,
@@ -50,6 +50,7 @@ use Rattle.images.specs.Images.{
   readEntries,
   imageIf,
   withEntries,
+  readTable,
   readImage,
 }
 use Rattle.images.proofs.ImageLaws.{image-read}
@@ -163,20 +164,20 @@ entries-written (suc n) ws e =
 -- ---- an image
 
 -- entries were read to the words' end, and they are a table's
-record OfEntries (number switches marks : ℕ) (o : Option (Read (List Entry))) (i : Image) : Type 0 where
+record OfEntries (run number switches marks : ℕ) (o : Option (Read (List Entry))) (i : Image) : Type 0 where
   es : List Entry
   all : o ≡ some (record { value = es; rest = [] })
   within : isTable (record { entries = es; switches = switches; marks = marks }) ≡ true
-  whole : record { number = number; table = record { entries = es; switches = switches; marks = marks } } ≡ i
+  whole : record { run = run; number = number; table = record { entries = es; switches = switches; marks = marks } } ≡ i
 
-of-entries : (number switches marks : ℕ) (o : Option (Read (List Entry))) {i : Image} → withEntries number switches marks o ≡ some i
-    → OfEntries number switches marks o i
+of-entries : (run number switches marks : ℕ) (o : Option (Read (List Entry))) {i : Image} → withEntries run number switches marks o ≡ some i
+    → OfEntries run number switches marks o i
 unfolding withEntries imageIf
-of-entries number switches marks none e = absurd (never e)
-of-entries number switches marks (some r) {i} e = go (r .value) (r .rest) e
+of-entries run number switches marks none e = absurd (never e)
+of-entries run number switches marks (some r) {i} e = go (r .value) (r .rest) e
   where
-    go : (es : List Entry) (rest : List ℕ) → withEntries number switches marks (some (record { value = es; rest = rest })) ≡ some i
-        → OfEntries number switches marks (some (record { value = es; rest = rest })) i
+    go : (es : List Entry) (rest : List ℕ) → withEntries run number switches marks (some (record { value = es; rest = rest })) ≡ some i
+        → OfEntries run number switches marks (some (record { value = es; rest = rest })) i
     go es [] x =
         let C = if-some (isTable (record { entries = es; switches = switches; marks = marks })) x in
         record { es = es; all = refl; within = C .0; whole = Option·some-injective _ _ (C .1) }
@@ -187,21 +188,27 @@ record ImageWritten (ws : List ℕ) (i : Image) : Type 0 where
   words : imageWords i ≡ ws
   writable : Writable i
 
-written : (ws : List ℕ) {i : Image} → readImage ws ≡ some i → ImageWritten ws i
-unfolding readImage imageWords
-written [] e = absurd (never e)
-written (w ∷ []) e = absurd (never e)
-written (w ∷ x ∷ ws) e =
+-- a run word v, and what follows it
+table-written : (v : ℕ) (ws : List ℕ) {i : Image} → isRunWord v ≡ true → readTable (lowOfWord v) ws ≡ some i → ImageWritten (v ∷ ws) i
+unfolding readTable imageWords
+table-written v [] R e = absurd (never e)
+table-written v (w ∷ []) R e = absurd (never e)
+table-written v (w ∷ x ∷ ws) R e =
     let C = if-some (isNumberWord w && isTableWord x) e in
-    let O = of-entries (numberBits w) (switchesBits x) (marksBits x) (readEntries (countBits x) ws) (C .1) in
+    let O = of-entries (lowOfWord v) (numberBits w) (switchesBits x) (marksBits x) (readEntries (countBits x) ws) (C .1) in
     let E = entries-written (countBits x) ws (O .all) in
     let number = number-word w (and-left (isNumberWord w) _ (C .0)) in
     let table = table-word x (and-right (isNumberWord w) _ (C .0)) ∙ ap (tableWord (switchesBits x) (marksBits x)) (sym (E .count)) in
     let entries = E .words ∙ append-nil (allEntryWords (O .es)) in
-    subst (ImageWritten (w ∷ x ∷ ws)) (O .whole) (record {
-      words = sym (λ k. number k ∷ table k ∷ entries k);
-      writable = record { few = omega arith; within = O .within; bytes = E .bytes };
+    subst (ImageWritten (v ∷ w ∷ x ∷ ws)) (O .whole) (record {
+      words = sym (λ k. run-word v R k ∷ number k ∷ table k ∷ entries k);
+      writable = record { ofRun = run-right v R; few = omega arith; within = O .within; bytes = E .bytes };
     })
+
+written : (ws : List ℕ) {i : Image} → readImage ws ≡ some i → ImageWritten ws i
+unfolding readImage
+written [] e = absurd (never e)
+written (w ∷ ws) e = let C = if-some (isRunWord w) e in table-written w ws (C .0) (C .1)
 
 pub image-written : (ws : List ℕ) {i : Image} → readImage ws ≡ some i → (imageWords i ≡ ws)
 image-written ws e = written ws e .words
@@ -212,6 +219,6 @@ image-writable ws e = written ws e .writable
 pub image-within : (ws : List ℕ) {i : Image} → readImage ws ≡ some i → (isTable (i .table) ≡ true) × (i .number ≤ maxNumber)
 image-within ws e = let W = image-writable ws e in (W .within, W .few)
 
--- and an image is one table's with one number
+-- and an image is of one table, with one run and one number
 pub one-image : {i j : Image} → Writable i → Writable j → imageWords i ≡ imageWords j → i ≡ j
 one-image W X e = Option·some-injective _ _ (sym (image-read W) ∙ ap readImage e ∙ image-read X)

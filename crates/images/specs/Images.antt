@@ -1,4 +1,5 @@
--- Images: a whole table with the number of its last change, as 32-bit words, and back. Scope, "A table for a standby that joins late".
+-- Images: a whole table with its run and the number of its last change, as 32-bit words, and back. Scope, "A table for a standby that joins late", and "A main
+-- that starts over".
 use Prim.Native.Nat.{ℕ, zero, suc, _+_, _*_, _/_, _%_, _≤_}
 use mathlib.Core.Path.{_≡_}
 use mathlib.Core.List.{List, [], _∷_, _++_}
@@ -12,11 +13,12 @@ use Rattle.table.specs.declared.Kind.{Kind}
 use Rattle.table.specs.Entries.{Entry, kindNumber}
 use Rattle.table.specs.Tables.{Table, isTable}
 use Rattle.table.specs.Memory.{kindFrom}
-use Rattle.table.specs.Carrying.{maxNumber}
-use Rattle.records.specs.Records.{actUnit, wordOf, pathWords, numberBits, Read, bytesFrom, ifResolved}
+use Rattle.table.specs.Carrying.{isRun, maxNumber}
+use Rattle.records.specs.Records.{actUnit, wordOf, runWord, pathWords, isRunWord, lowOfWord, numberBits, Read, bytesFrom, ifResolved}
 
--- a table, and the number of the last change that it has, 0 if it has none
+-- a table of a run, and the number of the last change that it has, 0 if it has none
 pub record Image : Type 0 where
+  pub run : ℕ
   pub number : ℕ
   pub table : Table
 
@@ -56,17 +58,18 @@ allEntryWords (e ∷ es) = entryWords e ++ allEntryWords es
 
 unfoldable pub imageWords : Image → List ℕ
 imageWords i =
-    numberWord (i .number)
+    runWord (i .run)
+    ∷ numberWord (i .number)
     ∷ tableWord (i .table .switches) (i .table .marks) (length (i .table .entries))
     ∷ allEntryWords (i .table .entries)
 
--- the words that a table's image takes, whatever its number
+-- the words that a table's image takes, whatever its run and its number
 unfoldable pub imageSize : Table → ℕ
-imageSize t = 2 + length (allEntryWords (t .entries))
+imageSize t = 3 + length (allEntryWords (t .entries))
 
 -- no image takes more: `few-words`
 abbrev pub maxImage : ℕ
-maxImage = 11351
+maxImage = 11352
 
 -- ---- what can be written
 
@@ -77,6 +80,7 @@ pub data PathBytes : List Entry → Type 0 where
 
 -- an image whose words read back as itself: `image-read`
 pub record Writable (i : Image) : Type 0 where
+  pub ofRun : isRun (i .run) ≡ true
   pub few : i .number ≤ maxNumber
   pub within : isTable (i .table) ≡ true
   pub bytes : PathBytes (i .table .entries)
@@ -138,14 +142,19 @@ unfoldable pub imageIf : Image → List ℕ → Option Image
 imageIf i [] = cond (isTable (i .table)) (some i) none
 imageIf i (w ∷ ws) = none
 
-unfoldable pub withEntries : ℕ → ℕ → ℕ → Option (Read (List Entry)) → Option Image
-withEntries number switches marks none = none
-withEntries number switches marks (some r) =
-    imageIf (record { number = number; table = record { entries = r .value; switches = switches; marks = marks } }) (r .rest)
+unfoldable pub withEntries : ℕ → ℕ → ℕ → ℕ → Option (Read (List Entry)) → Option Image
+withEntries run number switches marks none = none
+withEntries run number switches marks (some r) =
+    imageIf (record { run = run; number = number; table = record { entries = r .value; switches = switches; marks = marks } }) (r .rest)
 
--- the image that words are, if they are one; else they are malformed, or their content is no table
+-- what follows the run word: number and table words, and the entries
+unfoldable pub readTable : ℕ → List ℕ → Option Image
+readTable run [] = none
+readTable run (w ∷ []) = none
+readTable run (w ∷ x ∷ ws) =
+    cond (isNumberWord w && isTableWord x) (withEntries run (numberBits w) (switchesBits x) (marksBits x) (readEntries (countBits x) ws)) none
+
+-- the image that words are, if they are one; else they are malformed, as without a run word, or their content is no table
 unfoldable pub readImage : List ℕ → Option Image
 readImage [] = none
-readImage (w ∷ []) = none
-readImage (w ∷ x ∷ ws) =
-    cond (isNumberWord w && isTableWord x) (withEntries (numberBits w) (switchesBits x) (marksBits x) (readEntries (countBits x) ws)) none
+readImage (w ∷ ws) = cond (isRunWord w) (readTable (lowOfWord w) ws) none

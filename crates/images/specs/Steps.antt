@@ -56,7 +56,7 @@ areEntries marks (some r) = isEnd (r .rest) && leb (pathBytes (r .value)) maxPat
 
 unfoldable pub imageAnswer : Option Image → ImageRead
 imageAnswer none = answer.Malformed
-imageAnswer (some i) = answer.Image (i .number) (i .table .switches) (i .table .marks) (length (i .table .entries))
+imageAnswer (some i) = answer.Image (i .run) (i .number) (i .table .switches) (i .table .marks) (length (i .table .entries))
 
 -- an image was read, with a table of these switches, these marks and so many entries
 pub record IsRead (image : Option Image) (switches marks count : ℕ) : Type 0 where

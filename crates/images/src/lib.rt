@@ -1,4 +1,4 @@
-// Images: a whole table with the number of its last change as 32-bit words, written, read back, and loaded into memory. The definitions are in
+// Images: a whole table with its run and the number of its last change as 32-bit words, written, read back, and loaded into memory. The definitions are in
 // specs/.
 use table::Kind;
 
@@ -26,9 +26,9 @@ pub enum EntryRead {
     Entry(Kind, usize, usize),
 }
 
-// What reading an image answers: its number, the table's switches and marks, and how many entries it has; or that the words are malformed
+// What reading an image answers: its run, its number, the table's switches and marks, and how many entries it has; or that the words are malformed
 // or their content is no table.
 pub enum ImageRead {
     Malformed,
-    Image(u64, u8, u8, usize),
+    Image(u32, u64, u8, u8, usize),
 }

@@ -19,7 +19,7 @@ pub fn load_table(words: &[u32], switches: u8, marks: u8, count: usize, mem: &mu
     ensures { λ _. ⌜ now (mem .exit) ≡ loadedBy (readImage (now (words .entry))) (now (mem .entry)) ⌝ }
 {
     let mut space = [0u8; MAX_PATH];
-    let mut from: usize = 2;
+    let mut from: usize = 3;
     let mut at: usize = HEAD;
     let mut left = count;
     while left > 0 {

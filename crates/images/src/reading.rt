@@ -11,6 +11,7 @@ use paths::MAX_PATH;
 use records::ACT_UNIT;
 use records::PathRead;
 use records::reading::read_path_of;
+use records::reading::run_of;
 use records::words::Word;
 use records::words::left_at;
 use records::words::read_at;
@@ -94,11 +95,16 @@ pub fn read_image(words: &[u32]) -> ImageRead
     ensures { λ r. ⌜ r ≡ imageAnswer (readImage (now (words .entry))) ⌝ }
 {
     let front = read_front(words, 0);
+    let before = front.run;
+    let run = run_of(before);
+    if run == 0 {
+        return ImageRead::Malformed;
+    }
     let head = front.head;
     let Word::Is(first) = head else {
         return ImageRead::Malformed;
     };
-    let behind = front.second;
+    let behind = front.next;
     let Word::Is(second) = behind else {
         return ImageRead::Malformed;
     };
@@ -116,5 +122,11 @@ pub fn read_image(words: &[u32]) -> ImageRead
     if !are_entries(words, front.at, count, marks) {
         return ImageRead::Malformed;
     }
-    ImageRead::Image((first % ACT_UNIT) as u64, (second % 32) as u8, marks, count)
+    ImageRead::Image(
+        run,
+        (first % ACT_UNIT) as u64,
+        (second % 32) as u8,
+        marks,
+        count,
+    )
 }

@@ -2,6 +2,7 @@
 use crate::ENTRY;
 use crate::NUMBER;
 use crate::TABLE;
+use records::RUN;
 use records::writing::word_of;
 use records::writing::words_for;
 use records::writing::write_path_words;
@@ -16,7 +17,7 @@ ghost use lib.ListN.{length};
 ghost use Rattle.paths.specs.Copying.{begun, Appends};
 ghost use Rattle.paths.specs.Resolving.{maxPath};
 ghost use Rattle.table.specs.Memory.{tableOf, holds};
-ghost use Rattle.table.specs.Carrying.{maxNumber};
+ghost use Rattle.table.specs.Carrying.{maxRun, maxNumber};
 ghost use Rattle.images.specs.Images.{entryWords, imageWords, imageSize, maxImage};
 
 // How many words the image of a table takes.
@@ -24,7 +25,7 @@ pub fn image_size(mem: &[u8]) -> usize
     requires { ⌜ holds (now mem) ≡ true ⌝ }
     ensures { λ r. ⌜ (r ≡ imageSize (tableOf (now (mem .entry)))) × (r ≤ maxImage) ⌝ }
 {
-    let mut size: usize = 2;
+    let mut size: usize = 3;
     let mut cursor = reading::first(mem);
     while reading::is_at_entry(cursor) {
         let n = reading::path(mem, cursor).len();
@@ -43,17 +44,18 @@ fn write_entry(words: &mut [u32], at: usize, kind: Kind, path: &[u8]) -> usize
     write_path_words(words, at + 1, path)
 }
 
-// Writes the image of a table under a number, from the start of words that have room for it.
-pub fn write_image(mem: &[u8], number: u64, words: &mut [u32])
-    requires { ⌜ (holds (now mem) ≡ true) × (number ≤ maxNumber) × (imageSize (tableOf (now mem)) ≤ length (now words)) ⌝ }
-    ensures { λ _. ⌜ now (words .exit) ≡ begun (imageWords (record { number = number; table = tableOf (now (mem .entry)) })) (now (words .entry)) ⌝ }
+// Writes the image of a table under its run and a number, from the start of words that have room for it.
+pub fn write_image(mem: &[u8], run: u32, number: u64, words: &mut [u32])
+    requires { ⌜ (holds (now mem) ≡ true) × (run ≤ maxRun) × (number ≤ maxNumber) × (imageSize (tableOf (now mem)) ≤ length (now words)) ⌝ }
+    ensures { λ _. ⌜ now (words .exit) ≡ begun (imageWords (record { run = run; number = number; table = tableOf (now (mem .entry)) })) (now (words .entry)) ⌝ }
 {
-    words[0] = word_of(NUMBER, number as u32);
+    words[0] = word_of(RUN, run);
+    words[1] = word_of(NUMBER, number as u32);
     let low = count(mem) as u32 * 256
         + reading::marks(mem) as u32 * 32
         + reading::switches(mem) as u32;
-    words[1] = word_of(TABLE, low);
-    let mut at: usize = 2;
+    words[2] = word_of(TABLE, low);
+    let mut at: usize = 3;
     let mut cursor = reading::first(mem);
     while reading::is_at_entry(cursor) {
         at = write_entry(

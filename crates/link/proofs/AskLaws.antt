@@ -14,7 +14,7 @@ use Rattle.table.specs.declared.Action.{Action}
 use Rattle.table.specs.declared.Numbering.the-variants.{After}
 use Rattle.table.specs.Tables.{Table}
 use Rattle.table.specs.Memory.{tableOf, holds, doActs}
-use Rattle.table.specs.Carrying.{linked, carryCause, actOf, actionOf}
+use Rattle.table.specs.Carrying.{linked, isRun, carryCause, actOf, actionOf}
 use Rattle.table.proofs.Puts.{valid-of}
 use Rattle.walk.specs.declared.PermissionState.{PermissionState}
 use Rattle.calls.specs.declared.PromptResponse.{PromptResponse}
@@ -36,9 +36,9 @@ use Rattle.link.proofs.SendingLaws.{left-number, sends-refused, sends-d
 
 -- ---- a call that is refused
 
-module _ {call : Call} {n : ℕ} {m s w : List ℕ} {d : Descriptor} {p cwd : List ℕ} {response : ℕ} where
-  pub asks-refused : {cause : Refusal} {m′ : List ℕ} {r : AskSent} → askCall call (linked n w) m s d p cwd response ≡ refused cause → r ≡ refusedAskSent cause → m′ ≡ m
-      → LinkedAsks call m n s w d p cwd response m′ n s w r
+module _ {call : Call} {run n : ℕ} {m s w : List ℕ} {d : Descriptor} {p cwd : List ℕ} {response : ℕ} where
+  pub asks-refused : {cause : Refusal} {m′ : List ℕ} {r : AskSent} → askCall call (linked run n w) m s d p cwd response ≡ refused cause → r ≡ refusedAskSent cause → m′ ≡ m
+      → LinkedAsks call m run n s w d p cwd response m′ n s w r
   asks-refused e f q = rw (f, q) (record { answers = answers-refused e refl; sends = sends-refused e })
 
 -- ---- a call that is settled
@@ -55,9 +55,9 @@ carried-same n t made {decision} e = by (carryCause (After n) t (made .act)) ref
 
 module _ {call : Call} {n : ℕ} {m : List ℕ} {d : Descriptor} {p cwd : List ℕ} {known : PromptResponse} {z m′ z′ : List ℕ} {o : Settled}
     (S : Settles call (After n) m d p cwd known z m′ z′ o) where
-  pub settled-stops : {s w : List ℕ} {response : ℕ} {cause : Refusal} {r : AskSent}
-      → askCall call (linked n w) m s d p cwd response ≡ settled call (After n) (tableOf m) d p cwd known → o ≡ settled-as.Refused cause
-      → r ≡ refusedAskSent cause → LinkedAsks call m n s w d p cwd response m′ n s w r
+  pub settled-stops : {run : ℕ} {s w : List ℕ} {response : ℕ} {cause : Refusal} {r : AskSent}
+      → askCall call (linked run n w) m s d p cwd response ≡ settled call (After n) (tableOf m) d p cwd known → o ≡ settled-as.Refused cause
+      → r ≡ refusedAskSent cause → LinkedAsks call m run n s w d p cwd response m′ n s w r
   unfolding actsIn doActs
   settled-stops e f g =
       asks-refused (e ∙ settled-refused S f) g (S .memory ∙ ap (λ (x : Result Decision). doActs m (actsIn x)) (settled-refused S f))
@@ -79,17 +79,18 @@ module _ {call : Call} {n : ℕ} {m : List ℕ} {d : Descriptor} {p cwd : List �
     pub sent-decided : actOf action (take k z′) ≡ settled-told S f .decision .act
     sent-decided = sent-act ∙ ap (λ (x : Decision). x .act) (decided-same .0)
 
-    pub ask-sendable : {w : List ℕ} {at : ℕ} → holds m ≡ true → at + recordSpace ≤ length w → Sendable n (actOf action (take k z′)) w at
-    ask-sendable h room = rw sent-act (record {
+    pub ask-sendable : {run : ℕ} {w : List ℕ} {at : ℕ} → holds m ≡ true → isRun run ≡ true → at + recordSpace ≤ length w → Sendable run n (actOf action (take k z′)) w at
+    ask-sendable h known-run room = rw sent-act (record {
       fitting = decided-fits _ (valid-of _ h) _ (settled-stands S f .fits) _ _;
+      known = known-run;
       room = room;
       left = left-number n (tableOf m) _ (decided-same .1);
     })
 
-    pub settled-sends : {s w : List ℕ} {response : ℕ} {s′ : List ℕ} {a : Asked} {n′ : ℕ} {w′ : List ℕ} {j : ℕ}
-        → askCall call (linked n w) m s d p cwd response ≡ settled call (After n) (tableOf m) d p cwd known
-        → Finishes state asked writes d p (take k z′) s s′ a → SendsAt (actOf action (take k z′)) n w 0 n′ w′ j
-        → LinkedAsks call m n s w d p cwd response m′ n′ s′ w′ (record { answered = a; words = j })
+    pub settled-sends : {run : ℕ} {s w : List ℕ} {response : ℕ} {s′ : List ℕ} {a : Asked} {n′ : ℕ} {w′ : List ℕ} {j : ℕ}
+        → askCall call (linked run n w) m s d p cwd response ≡ settled call (After n) (tableOf m) d p cwd known
+        → Finishes state asked writes d p (take k z′) s s′ a → SendsAt (actOf action (take k z′)) run n w 0 n′ w′ j
+        → LinkedAsks call m run n s w d p cwd response m′ n′ s′ w′ (record { answered = a; words = j })
     settled-sends e F A = record {
       answers = answers-finished e S f F;
       sends = rw e (sends-decided (settled-told S f .is) (S .memory) (rw sent-decided at A));

@@ -8,13 +8,12 @@ use lib.ListN.{length}
 use lib.Dec.{ltb}
 use borrow.Author.Tests.{ltb-false}
 use Rattle.refusals.specs.declared.Refusal.{Refusal}
-use Rattle.refusals.specs.Refusals.{refused}
+use Rattle.refusals.specs.Refusals.{refused, ok}
 use Rattle.paths.specs.Copying.{begun}
 use Rattle.table.specs.declared.Numbering.the-variants.{After}
 use Rattle.table.specs.Memory.{tableOf, doActs}
 use Rattle.table.specs.Carrying.{linked}
-use Rattle.table.specs.Calls.{recordSpace, atLeastOne}
-use Rattle.table.proofs.CallLaws.{room-long}
+use Rattle.table.specs.Calls.{recordSpace, atLeastOne, linkIn}
 use Rattle.child.specs.declared.ChildMade.{ChildMade}
 use Rattle.child.specs.Arguments.{maxItems, Arguments}
 use Rattle.child.specs.Making.{allItems, takeOver}
@@ -58,21 +57,21 @@ has-room k w e = ltb-false w (recordSpace * atLeastOne k) e
 
 -- ---- what the call answers and leaves
 
-pub child-refused : {n : ℕ} {m c w : List ℕ} {code : ℕ} {bytes ends responses cwd : List ℕ} {cause : Refusal} {a : ChildSent}
-    → childCall (linked n w) m c code bytes ends responses cwd ≡ refused cause → a ≡ childRefused cause 0 0 → LinkedChild m n c w code bytes ends responses cwd m n c w a
+pub child-refused : {run n : ℕ} {m c w : List ℕ} {code : ℕ} {bytes ends responses cwd : List ℕ} {cause : Refusal} {a : ChildSent}
+    → childCall (linked run n w) m c code bytes ends responses cwd ≡ refused cause → a ≡ childRefused cause 0 0 → LinkedChild m run n c w code bytes ends responses cwd m n c w a
 unfolding actsIn doActs numbered allWords begun
 child-refused e f = rw f (record {
   creates = refused-creates e refl;
   sends = record { memory = rw e; number = rw e (omega arith); words = rw e; count = rw e };
 })
 
-pub child-sends : {n : ℕ} {m c w : List ℕ} {code : ℕ} {bytes ends responses cwd : List ℕ} {args : Arguments} {c₁ m′ c₂ : List ℕ} {r : ChildMade}
-    → (R : Ran (After n) m c code bytes ends responses cwd args c₁ m′ c₂ r) → ltb (length w) (recordSpace * atLeastOne (length ends)) ≡ false
-    → {n′ : ℕ} {w′ : List ℕ} {k : ℕ} → Records (allItems (After n) cwd (args .items) (tableOf m) (tableOf c₁) .acts) n w 0 n′ w′ k
+pub child-sends : {run n : ℕ} {m c w : List ℕ} {code : ℕ} {bytes ends responses cwd : List ℕ} {args : Arguments} {c₁ m′ c₂ : List ℕ} {r : ChildMade}
+    → (R : Ran (After n) m c code bytes ends responses cwd args c₁ m′ c₂ r) → linkIn (length ends) (linked run n w) ≡ ok (After n)
+    → {n′ : ℕ} {w′ : List ℕ} {k : ℕ} → Records (allItems (After n) cwd (args .items) (tableOf m) (tableOf c₁) .acts) run n w 0 n′ w′ k
     → {c₃ : List ℕ} {a : ChildMade} → Completes (afterItems (r .outcome) (takeOver (tableOf m′) (tableOf c₂))) (r .asked) c₂ c₃ a
-    → LinkedChild m n c w code bytes ends responses cwd m′ n′ c₃ w′ (record { made = a; words = k })
-child-sends {n} {m} {c} {w} {code} {bytes} {ends} {responses} {cwd} {args} R room S C =
-    let call = child-known (linked n w) m c code bytes ends responses cwd (R .holding) (R .long) (room-long (length ends) n w room) args (R .read) in
+    → LinkedChild m run n c w code bytes ends responses cwd m′ n′ c₃ w′ (record { made = a; words = k })
+child-sends {run} {n} {m} {c} {w} {code} {bytes} {ends} {responses} {cwd} {args} R room S C =
+    let call = child-known (linked run n w) m c code bytes ends responses cwd (R .holding) (R .long) room args (R .read) in
     let Z = rw (← acts-are R call) at S in
     record {
       creates = creates-by R call C;
@@ -81,6 +80,6 @@ child-sends {n} {m} {c} {w} {code} {bytes} {ends} {responses} {cwd} {args} R roo
 
 -- ---- how often it asks
 
-pub linked-asked-few : {m : List ℕ} {n : ℕ} {c w : List ℕ} {code : ℕ} {bytes ends responses cwd m′ : List ℕ} {n′ : ℕ} {c′ w′ : List ℕ} {r : ChildSent}
-    → LinkedChild m n c w code bytes ends responses cwd m′ n′ c′ w′ r → r .made .asked ≤ maxItems
-linked-asked-few {m} {n} {c} {w} {code} {bytes} {ends} {responses} {cwd} L = rw (L .creates .asked) (call-asked (linked n w) m c code bytes ends responses cwd)
+pub linked-asked-few : {m : List ℕ} {run n : ℕ} {c w : List ℕ} {code : ℕ} {bytes ends responses cwd m′ : List ℕ} {n′ : ℕ} {c′ w′ : List ℕ} {r : ChildSent}
+    → LinkedChild m run n c w code bytes ends responses cwd m′ n′ c′ w′ r → r .made .asked ≤ maxItems
+linked-asked-few {m} {run} {n} {c} {w} {code} {bytes} {ends} {responses} {cwd} L = rw (L .creates .asked) (call-asked (linked run n w) m c code bytes ends responses cwd)

@@ -1,5 +1,5 @@
--- A linked call is the plain call and its records: with room for a record it is the plain call, unless no number is left for its act. What it sends is
--- then said by its promise: the acts by which the table changed, numbered on.
+-- A linked call is the plain call and its records: with room for a record and a known run it is the plain call, unless no number is left for its act. What
+-- it sends is then said by its promise: the acts by which the table changed, numbered on.
 use Prim.Native.Nat.{ℕ, _+_, _≤_}
 use mathlib.Core.Path.{_≡_, refl, ap, _∙_}
 use mathlib.Core.List.{List, [], _∷_}
@@ -15,8 +15,8 @@ use Rattle.table.specs.declared.Numbering.the-variants.{Plain, After}
 use Rattle.table.specs.Entries.{kindOf, knownKind}
 use Rattle.table.specs.Tables.{Table}
 use Rattle.table.specs.Acts.{Act, insert, setSwitches, actOverflows, applyActs}
-use Rattle.table.specs.Carrying.{plain, linked, usedUp, past, carryCause}
-use Rattle.table.specs.Calls.{tableIn, freshIn, recordSpace, recordRoom, knownSwitches, carried, switchesCall, insertCall}
+use Rattle.table.specs.Carrying.{plain, linked, isRun, usedUp, past, carryCause}
+use Rattle.table.specs.Calls.{tableIn, freshIn, recordSpace, linkIn, knownSwitches, carried, switchesCall, insertCall}
 use Rattle.table.proofs.CallLaws.{room-plain}
 use Rattle.calls.specs.declared.PromptResponse.{PromptResponse}
 use Rattle.calls.specs.declared.Call.{Call}
@@ -63,33 +63,33 @@ decision-same n t decision = carry-same n t (decision .act) decision
 
 -- ---- the calls
 
-module _ (n : ℕ) (m w : List ℕ) (room : recordSpace ≤ length w) where
-  pub switches-plain : (v : ℕ) → SameOrUsedUp (switchesCall plain m v) (switchesCall (linked n w) m v)
+module _ (run n : ℕ) (m w : List ℕ) (room : recordSpace ≤ length w) (known-run : isRun run ≡ true) where
+  pub switches-plain : (v : ℕ) → SameOrUsedUp (switchesCall plain m v) (switchesCall (linked run n w) m v)
   unfolding switchesCall
   switches-plain v =
-      step-same (tableIn m) _ _ (λ t. rw (room-plain 1, a-room n w room) (unfold andThen in
+      step-same (tableIn m) _ _ (λ t. rw (room-plain 1, a-room run n w room known-run) (unfold andThen in
       step-same (knownSwitches v) _ _ (λ k. carried-same n t (setSwitches k))))
 
-  pub insert-plain : (kind : ℕ) (p cwd : List ℕ) → SameOrUsedUp (insertCall plain m kind p cwd) (insertCall (linked n w) m kind p cwd)
+  pub insert-plain : (kind : ℕ) (p cwd : List ℕ) → SameOrUsedUp (insertCall plain m kind p cwd) (insertCall (linked run n w) m kind p cwd)
   unfolding insertCall
   insert-plain kind p cwd =
-      step-same (tableIn m) _ _ (λ t. rw (room-plain 1, a-room n w room) (unfold andThen in
+      step-same (tableIn m) _ _ (λ t. rw (room-plain 1, a-room run n w room known-run) (unfold andThen in
       step-same (knownKind (kindOf kind)) _ _ (λ k.
       step-same (resolved p cwd) _ _ (λ q. carried-same n t (insert (record { kind = k; path = q }))))))
 
   pub ask-plain : (call : Call) (s : List ℕ) (d : Descriptor) (p cwd : List ℕ) (response : ℕ)
-      → SameOrUsedUp (askCall call plain m s d p cwd response) (askCall call (linked n w) m s d p cwd response)
+      → SameOrUsedUp (askCall call plain m s d p cwd response) (askCall call (linked run n w) m s d p cwd response)
   unfolding askCall settled
   ask-plain call s d p cwd response =
       step-same (tableIn m) _ _ (λ t.
-      step-same (textSpace s) _ _ (λ space. rw (room-plain 1, a-room n w room) (unfold andThen in
+      step-same (textSpace s) _ _ (λ space. rw (room-plain 1, a-room run n w room known-run) (unfold andThen in
       step-same (knownResponse (responseOf response)) _ _ (λ known.
       step-same (given d p cwd) _ _ (λ q. decision-same n t (decide call t q known))))))
 
-  pub revoke-plain : (d : Descriptor) (p cwd : List ℕ) → SameOrUsedUp (revokeCall plain m d p cwd) (revokeCall (linked n w) m d p cwd)
+  pub revoke-plain : (d : Descriptor) (p cwd : List ℕ) → SameOrUsedUp (revokeCall plain m d p cwd) (revokeCall (linked run n w) m d p cwd)
   unfolding revokeCall
   revoke-plain d p cwd =
-      step-same (tableIn m) _ _ (λ t. rw (room-plain 1, a-room n w room) (unfold andThen in
+      step-same (tableIn m) _ _ (λ t. rw (room-plain 1, a-room run n w room known-run) (unfold andThen in
       step-same (given d p cwd) _ _ (λ q. decision-same n t (revokeDesc t q))))
 
 -- ---- the child: its fold is the plain one's, or stops where no number is left for an item's act
@@ -151,10 +151,10 @@ unfolding andThen
 child-step (refused cause) f g h = refused-alike
 child-step (ok x) f g h = h x
 
-pub child-plain : (n : ℕ) (m c w : List ℕ) (code : ℕ) (bytes ends responses cwd : List ℕ) → recordRoom (length ends) (linked n w) ≡ ok (After n)
-    → ChildSame (childCall plain m c code bytes ends responses cwd) (childCall (linked n w) m c code bytes ends responses cwd)
+pub child-plain : (run n : ℕ) (m c w : List ℕ) (code : ℕ) (bytes ends responses cwd : List ℕ) → linkIn (length ends) (linked run n w) ≡ ok (After n)
+    → ChildSame (childCall plain m c code bytes ends responses cwd) (childCall (linked run n w) m c code bytes ends responses cwd)
 unfolding childCall creation
-child-plain n m c w code bytes ends responses cwd room =
+child-plain run n m c w code bytes ends responses cwd room =
     child-step (tableIn m) _ _ (λ t.
     child-step (freshIn c) _ _ (λ empty. rw (room-plain (length ends), room) (unfold andThen in
     child-step (argumentsOf code bytes ends responses) _ _ (λ args. made-alike (child-same n t args cwd)))))

@@ -1,4 +1,5 @@
 pub mod Sending
+pub mod Beginning
 pub mod Linked
 pub mod Imaging
 pub mod Steps

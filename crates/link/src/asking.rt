@@ -14,6 +14,7 @@ use paths::MAX_PATH;
 use records::RECORD_WORDS;
 use refusals::Refusal;
 use table::Numbering;
+use table::carrying::is_run;
 use table::holding::holds_table;
 use walk::Answer;
 ghost use mathlib.Core.Path.{_≡_};
@@ -37,6 +38,7 @@ fn refused(cause: Refusal) -> AskSent
 // Checks or requests a path as given with the working directory, or reading as a whole, and records the act, if there is one.
 pub fn ask<'a>(
     mem: &mut [u8],
+    run: u32,
     number: &mut u64,
     words: &mut [u32],
     call: Call,
@@ -46,7 +48,7 @@ pub fn ask<'a>(
     response: u32,
     space: &mut [u8],
 ) -> AskSent
-    ensures { λ r. ⌜ LinkedAsks call (now (mem .entry)) (now (number .entry)) (now (space .entry)) (now (words .entry)) d (now («path» .entry)) (now (cwd .entry)) response (now (mem .exit)) (now (number .exit)) (now (space .exit)) (now (words .exit)) r ⌝ }
+    ensures { λ r. ⌜ LinkedAsks call (now (mem .entry)) run (now (number .entry)) (now (space .entry)) (now (words .entry)) d (now («path» .entry)) (now (cwd .entry)) response (now (mem .exit)) (now (number .exit)) (now (space .exit)) (now (words .exit)) r ⌝ }
 {
     if !holds_table(mem) {
         return refused(Refusal::NoTable);
@@ -56,6 +58,9 @@ pub fn ask<'a>(
     }
     if words.len() < RECORD_WORDS {
         return refused(Refusal::NoSpace);
+    }
+    if !is_run(run) {
+        return refused(Refusal::Unknown);
     }
     let ResponseRead::Response(known) = response_of(response) else {
         return refused(Refusal::Unknown);
@@ -74,7 +79,7 @@ pub fn ask<'a>(
     ) {
         Settled::Refused(cause) => refused(cause),
         Settled::Decided(state, asked, writes, n, action) => {
-            let sent = send_at(number, words, 0, action, &resolved[..n]);
+            let sent = send_at(run, number, words, 0, action, &resolved[..n]);
             AskSent {
                 answered: finish(state, asked, writes, d, path, &resolved, n, space),
                 words: sent,

@@ -11,6 +11,7 @@ use child::inheriting::begin;
 use records::RECORD_WORDS;
 use refusals::Refusal;
 use table::TABLE_BYTES;
+use table::carrying::is_run;
 use table::holding::holds_table;
 ghost use mathlib.Core.Path.{_≡_};
 ghost use Prim.Native.Nat.{_*_};
@@ -36,6 +37,7 @@ fn lacks_room(words: usize, items: usize) -> bool
 // stand there also where the call is refused on the way.
 pub fn create_child_permissions(
     parent: &mut [u8],
+    run: u32,
     number: &mut u64,
     child: &mut [u8],
     words: &mut [u32],
@@ -45,7 +47,7 @@ pub fn create_child_permissions(
     responses: &[u32],
     cwd: &[u8],
 ) -> ChildSent
-    ensures { λ r. ⌜ LinkedChild (now (parent .entry)) (now (number .entry)) (now (child .entry)) (now (words .entry)) code (now (bytes .entry)) (now (ends .entry)) (now (responses .entry)) (now (cwd .entry)) (now (parent .exit)) (now (number .exit)) (now (child .exit)) (now (words .exit)) r ⌝ }
+    ensures { λ r. ⌜ LinkedChild (now (parent .entry)) run (now (number .entry)) (now (child .entry)) (now (words .entry)) code (now (bytes .entry)) (now (ends .entry)) (now (responses .entry)) (now (cwd .entry)) (now (parent .exit)) (now (number .exit)) (now (child .exit)) (now (words .exit)) r ⌝ }
 {
     if !holds_table(parent) {
         return refused(Refusal::NoTable, 0, 0);
@@ -55,6 +57,9 @@ pub fn create_child_permissions(
     }
     if lacks_room(words.len(), ends.len()) {
         return refused(Refusal::NoSpace, 0, 0);
+    }
+    if !is_run(run) {
+        return refused(Refusal::Unknown, 0, 0);
     }
     let ArgRead::Arg(arg) = arg_of(code) else {
         return refused(Refusal::Unknown, 0, 0);
@@ -69,6 +74,7 @@ pub fn create_child_permissions(
     let sent = grant_all(
         parent,
         child,
+        run,
         number,
         words,
         arg,

@@ -20,6 +20,7 @@ ghost use mathlib.Core.Bool.{true};
 ghost use Prim.Native.Nat.{_+_, _*_, _≤_};
 ghost use lib.ListN.{length};
 ghost use Rattle.table.specs.Memory.{holds};
+ghost use Rattle.table.specs.Carrying.{isRun};
 ghost use Rattle.child.specs.Arguments.{listItems, itemsOf, areInOrder};
 ghost use Rattle.child.specs.Steps.{areResponses, Listed};
 ghost use Rattle.table.specs.Calls.{recordSpace, atLeastOne};
@@ -55,6 +56,7 @@ fn done(asked: usize, words: usize) -> ChildSent
 fn grant_item(
     parent: &mut [u8],
     child: &mut [u8],
+    run: u32,
     number: &mut u64,
     words: &mut [u32],
     at: usize,
@@ -63,8 +65,8 @@ fn grant_item(
     cwd: &[u8],
     response: PromptResponse,
 ) -> ChildSent
-    requires { ⌜ (holds (now parent) ≡ true) × (holds (now child) ≡ true) × (at + recordSpace ≤ length (now words)) ⌝ }
-    ensures { λ r. ⌜ SendsItem (now (cwd .entry)) (record { descriptor = d; given = now (given .entry); response = response }) (now (parent .entry)) (now (child .entry)) (now (number .entry)) (now (words .entry)) at (now (parent .exit)) (now (child .exit)) (now (number .exit)) (now (words .exit)) r ⌝ }
+    requires { ⌜ (holds (now parent) ≡ true) × (holds (now child) ≡ true) × (isRun run ≡ true) × (at + recordSpace ≤ length (now words)) ⌝ }
+    ensures { λ r. ⌜ SendsItem (now (cwd .entry)) (record { descriptor = d; given = now (given .entry); response = response }) (now (parent .entry)) (now (child .entry)) run (now (number .entry)) (now (words .entry)) at (now (parent .exit)) (now (child .exit)) (now (number .exit)) (now (words .exit)) r ⌝ }
 {
     let last = *number;
     let mut resolved = [0u8; MAX_PATH];
@@ -80,7 +82,7 @@ fn grant_item(
     ) {
         Settled::Refused(cause) => refused(cause, 0, at),
         Settled::Decided(state, asked, _, n, action) => {
-            let end = send_at(number, words, at, action, &resolved[..n]);
+            let end = send_at(run, number, words, at, action, &resolved[..n]);
             let outcome = pass_on(child, state, d, &resolved[..n]);
             ChildSent {
                 made: ChildMade {
@@ -97,6 +99,7 @@ fn grant_item(
 fn grant_items(
     parent: &mut [u8],
     child: &mut [u8],
+    run: u32,
     number: &mut u64,
     words: &mut [u32],
     bytes: &[u8],
@@ -104,8 +107,8 @@ fn grant_items(
     responses: &[u32],
     cwd: &[u8],
 ) -> ChildSent
-    requires { ⌜ (holds (now parent) ≡ true) × (holds (now child) ≡ true) × Listed (now bytes) (now ends) (now responses) × (recordSpace * length (now ends) ≤ length (now words)) ⌝ }
-    ensures { λ r. ⌜ SendsItems (now (cwd .entry)) (listItems (now (bytes .entry)) 0 (now (ends .entry))) (now (responses .entry)) (now (parent .entry)) (now (child .entry)) (now (number .entry)) (now (words .entry)) (now (parent .exit)) (now (child .exit)) (now (number .exit)) (now (words .exit)) r ⌝ }
+    requires { ⌜ (holds (now parent) ≡ true) × (holds (now child) ≡ true) × (isRun run ≡ true) × Listed (now bytes) (now ends) (now responses) × (recordSpace * length (now ends) ≤ length (now words)) ⌝ }
+    ensures { λ r. ⌜ SendsItems (now (cwd .entry)) (listItems (now (bytes .entry)) 0 (now (ends .entry))) (now (responses .entry)) (now (parent .entry)) (now (child .entry)) run (now (number .entry)) (now (words .entry)) (now (parent .exit)) (now (child .exit)) (now (number .exit)) (now (words .exit)) r ⌝ }
 {
     let mut asked: usize = 0;
     let mut at: usize = 0;
@@ -116,6 +119,7 @@ fn grant_items(
         let sent = grant_item(
             parent,
             child,
+            run,
             number,
             words,
             at,
@@ -141,6 +145,7 @@ fn grant_items(
 pub(crate) fn grant_all(
     parent: &mut [u8],
     child: &mut [u8],
+    run: u32,
     number: &mut u64,
     words: &mut [u32],
     arg: ChildUnaryPermissionArg,
@@ -149,10 +154,10 @@ pub(crate) fn grant_all(
     responses: &[u32],
     cwd: &[u8],
 ) -> ChildSent
-    requires { ⌜ (holds (now parent) ≡ true) × (holds (now child) ≡ true) ⌝ }
+    requires { ⌜ (holds (now parent) ≡ true) × (holds (now child) ≡ true) × (isRun run ≡ true) ⌝ }
     requires { ⌜ (areResponses (now responses) ≡ true) × (areInOrder arg (now bytes) (now ends) (now responses) ≡ true) ⌝ }
     requires { ⌜ recordSpace * atLeastOne (length (now ends)) ≤ length (now words) ⌝ }
-    ensures { λ r. ⌜ SendsItems (now (cwd .entry)) (itemsOf arg (now (bytes .entry)) (now (ends .entry))) (now (responses .entry)) (now (parent .entry)) (now (child .entry)) (now (number .entry)) (now (words .entry)) (now (parent .exit)) (now (child .exit)) (now (number .exit)) (now (words .exit)) r ⌝ }
+    ensures { λ r. ⌜ SendsItems (now (cwd .entry)) (itemsOf arg (now (bytes .entry)) (now (ends .entry))) (now (responses .entry)) (now (parent .entry)) (now (child .entry)) run (now (number .entry)) (now (words .entry)) (now (parent .exit)) (now (child .exit)) (now (number .exit)) (now (words .exit)) r ⌝ }
 {
     match arg {
         ChildUnaryPermissionArg::Inherit => done(0, 0),
@@ -160,6 +165,7 @@ pub(crate) fn grant_all(
         ChildUnaryPermissionArg::Granted => grant_item(
             parent,
             child,
+            run,
             number,
             words,
             0,
@@ -171,6 +177,7 @@ pub(crate) fn grant_all(
         ChildUnaryPermissionArg::GrantedList => grant_items(
             parent,
             child,
+            run,
             number,
             words,
             bytes,

@@ -4,6 +4,7 @@ use images::writing::image_size;
 use refusals::Refusal;
 use table::MAX_NUMBER;
 use table::Outcome;
+use table::carrying::is_run;
 use table::holding::holds_table;
 ghost use mathlib.Core.Path.{_≡_};
 ghost use Rattle.link.specs.Imaging.{WritesImage};
@@ -19,9 +20,9 @@ fn refused(cause: Refusal, words: usize) -> ImageSent
     }
 }
 
-// Writes the image of the table, with the main's number, into the lent words. It reads table and number, and changes neither.
-pub fn write_image(mem: &[u8], number: u64, words: &mut [u32]) -> ImageSent
-    ensures { λ r. ⌜ WritesImage (now (mem .entry)) number (now (words .entry)) (now (words .exit)) r ⌝ }
+// Writes the image of the table, with the main's run and number, into the lent words. It reads table and number, and changes neither.
+pub fn write_image(mem: &[u8], run: u32, number: u64, words: &mut [u32]) -> ImageSent
+    ensures { λ r. ⌜ WritesImage (now (mem .entry)) run number (now (words .entry)) (now (words .exit)) r ⌝ }
 {
     if !holds_table(mem) {
         return refused(Refusal::NoTable, 0);
@@ -30,10 +31,13 @@ pub fn write_image(mem: &[u8], number: u64, words: &mut [u32]) -> ImageSent
     if words.len() < size {
         return refused(Refusal::NoSpace, size);
     }
+    if !is_run(run) {
+        return refused(Refusal::Unknown, size);
+    }
     if number > MAX_NUMBER {
         return refused(Refusal::NumbersUsedUp, size);
     }
-    images::writing::write_image(mem, number, words);
+    images::writing::write_image(mem, run, number, words);
     ImageSent {
         outcome: Outcome::Done,
         words: size,

@@ -1,10 +1,11 @@
-// The main's half of the link: each call that changes a table, with a record of its act under the next number. The definitions are in specs/.
+// The main's half of the link: the beginning of a run, and each call that changes a table, with a record of its act under the next number. The definitions are in specs/.
 use calls::Asked;
 use child::ChildMade;
 use table::Outcome;
 use walk::Answer;
 
 pub mod asking;
+pub mod beginning;
 pub mod creating;
 pub mod granting;
 pub mod imaging;

@@ -10,6 +10,7 @@ use paths::giving::resolve_given;
 use records::RECORD_WORDS;
 use refusals::Refusal;
 use table::Numbering;
+use table::carrying::is_run;
 use table::holding::holds_table;
 use walk::Answer;
 ghost use mathlib.Core.Path.{_≡_};
@@ -18,6 +19,7 @@ ghost use Prim.Native.Nat.{_≤_};
 ghost use lib.ListN.{length};
 ghost use Rattle.paths.specs.Giving.{isQuery, queryOf};
 ghost use Rattle.table.specs.Memory.{holds};
+ghost use Rattle.table.specs.Carrying.{isRun};
 ghost use Rattle.table.specs.Calls.{recordSpace};
 ghost use Rattle.link.specs.Steps.{refusedRevoke, PerformsRevoke};
 ghost use Rattle.link.specs.Linked.{LinkedRevokes};
@@ -35,14 +37,15 @@ fn refused(cause: Refusal) -> RevokeSent
 // A revoke of what is resolved, and its record.
 fn revoke_resolved(
     mem: &mut [u8],
+    run: u32,
     number: &mut u64,
     words: &mut [u32],
     d: Descriptor,
     q: &[u8],
 ) -> RevokeSent
-    requires { ⌜ holds (now mem) ≡ true ⌝ }
+    requires { ⌜ (holds (now mem) ≡ true) × (isRun run ≡ true) ⌝ }
     requires { ⌜ (isQuery (queryOf d (now q)) ≡ true) × (recordSpace ≤ length (now words)) ⌝ }
-    ensures { λ r. ⌜ PerformsRevoke (queryOf d (now (q .entry))) (now (mem .entry)) (now (number .entry)) (now (words .entry)) (now (mem .exit)) (now (number .exit)) (now (words .exit)) r ⌝ }
+    ensures { λ r. ⌜ PerformsRevoke (queryOf d (now (q .entry))) (now (mem .entry)) run (now (number .entry)) (now (words .entry)) (now (mem .exit)) (now (number .exit)) (now (words .exit)) r ⌝ }
 {
     let last = *number;
     let answer = revoke_query(mem, Numbering::After(last), d, q);
@@ -50,7 +53,7 @@ fn revoke_resolved(
         Answer::Refused(cause) => refused(cause),
         Answer::State(_) => RevokeSent {
             answer,
-            words: send_at(number, words, 0, revoke_action(d), q),
+            words: send_at(run, number, words, 0, revoke_action(d), q),
         },
     }
 }
@@ -58,13 +61,14 @@ fn revoke_resolved(
 // Revokes a path as given with the working directory, or all, and records it.
 pub fn revoke(
     mem: &mut [u8],
+    run: u32,
     number: &mut u64,
     words: &mut [u32],
     d: Descriptor,
     path: &[u8],
     cwd: &[u8],
 ) -> RevokeSent
-    ensures { λ r. ⌜ LinkedRevokes (now (mem .entry)) (now (number .entry)) (now (words .entry)) d (now («path» .entry)) (now (cwd .entry)) (now (mem .exit)) (now (number .exit)) (now (words .exit)) r ⌝ }
+    ensures { λ r. ⌜ LinkedRevokes (now (mem .entry)) run (now (number .entry)) (now (words .entry)) d (now («path» .entry)) (now (cwd .entry)) (now (mem .exit)) (now (number .exit)) (now (words .exit)) r ⌝ }
 {
     if !holds_table(mem) {
         return refused(Refusal::NoTable);
@@ -72,9 +76,12 @@ pub fn revoke(
     if words.len() < RECORD_WORDS {
         return refused(Refusal::NoSpace);
     }
+    if !is_run(run) {
+        return refused(Refusal::Unknown);
+    }
     let mut space = [0u8; MAX_PATH];
     match resolve_given(d, path, cwd, &mut space) {
         Resolution::Refused(cause) => refused(cause),
-        Resolution::Resolved(n) => revoke_resolved(mem, number, words, d, &space[..n]),
+        Resolution::Resolved(n) => revoke_resolved(mem, run, number, words, d, &space[..n]),
     }
 }

@@ -6,6 +6,7 @@ use refusals::Refusal;
 use table::Action;
 use table::MAX_SWITCHES;
 use table::Outcome;
+use table::carrying::is_run;
 use table::holding::holds_table;
 ghost use mathlib.Core.Path.{_≡_};
 ghost use Rattle.link.specs.Steps.{refusedSent};
@@ -22,8 +23,14 @@ pub(crate) fn refused(cause: Refusal) -> Sent
 }
 
 // Sets the switches, all five together, and records it.
-pub fn set_switches(mem: &mut [u8], number: &mut u64, words: &mut [u32], switches: u32) -> Sent
-    ensures { λ r. ⌜ LinkedSwitches (now (mem .entry)) (now (number .entry)) (now (words .entry)) switches (now (mem .exit)) (now (number .exit)) (now (words .exit)) r ⌝ }
+pub fn set_switches(
+    mem: &mut [u8],
+    run: u32,
+    number: &mut u64,
+    words: &mut [u32],
+    switches: u32,
+) -> Sent
+    ensures { λ r. ⌜ LinkedSwitches (now (mem .entry)) run (now (number .entry)) (now (words .entry)) switches (now (mem .exit)) (now (number .exit)) (now (words .exit)) r ⌝ }
 {
     if !holds_table(mem) {
         return refused(Refusal::NoTable);
@@ -31,8 +38,18 @@ pub fn set_switches(mem: &mut [u8], number: &mut u64, words: &mut [u32], switche
     if words.len() < RECORD_WORDS {
         return refused(Refusal::NoSpace);
     }
+    if !is_run(run) {
+        return refused(Refusal::Unknown);
+    }
     if switches > MAX_SWITCHES as u32 {
         return refused(Refusal::Unknown);
     }
-    perform(mem, number, words, Action::SetSwitches(switches as u8), b"")
+    perform(
+        mem,
+        run,
+        number,
+        words,
+        Action::SetSwitches(switches as u8),
+        b"",
+    )
 }

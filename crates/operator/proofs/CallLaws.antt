@@ -17,7 +17,7 @@ use Rattle.table.specs.Tables.{Table, has, prompt, granted, flagIgnored}
 use Rattle.table.specs.Acts.{Act, insert, applyAct, applyActs}
 use Rattle.table.specs.Memory.{tableOf, holds, doActs}
 use Rattle.table.specs.Carrying.{Link, actsOf}
-use Rattle.table.specs.Calls.{recordRoom}
+use Rattle.table.specs.Calls.{linkIn}
 use Rattle.table.proofs.BitLaws.{bit-kept}
 use Rattle.table.proofs.ActLaws.{Acted}
 use Rattle.table.proofs.CallLaws.{hands-table}
@@ -204,7 +204,7 @@ module _ (link : Link) (m : List ℕ) (d : Descriptor) (p cwd : List ℕ) (h : h
   ask-comes call s response =
       hands-table m _ h (
       hands-then (hands-itself (textSpace s)) (λ space _.
-      hands-then (hands-itself (recordRoom 1 link)) (λ numbers _.
+      hands-then (hands-itself (linkIn 1 link)) (λ numbers _.
       hands-then (known-is (responseOf response)) (λ answer known.
       hands-then (given-is d p cwd) (λ q e.
       hands-unless _ _ (λ _. record { answer = answer; known = known; comes = rw e (decided (tableOf m) q answer call) }))))))
@@ -213,7 +213,7 @@ module _ (link : Link) (m : List ℕ) (d : Descriptor) (p cwd : List ℕ) (h : h
   unfolding revokeCall carriedOut revokeDesc Revoked
   revoke-comes =
       hands-table m _ h (
-      hands-then (hands-itself (recordRoom 1 link)) (λ numbers _.
+      hands-then (hands-itself (linkIn 1 link)) (λ numbers _.
       hands-then (given-is d p cwd) (λ q e.
       hands-unless _ _ (λ _. rw e))))
 

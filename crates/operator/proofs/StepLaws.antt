@@ -14,7 +14,7 @@ use Rattle.table.specs.Tables.{Table, isTable}
 use Rattle.table.specs.Acts.{Act, applyActs}
 use Rattle.table.specs.Memory.{doActs}
 use Rattle.table.specs.Carrying.{Link}
-use Rattle.table.specs.Calls.{recordRoom}
+use Rattle.table.specs.Calls.{linkIn}
 use Rattle.table.proofs.StandingLaws.{allFit, Stands, stands-then, table-in, spaceOf, length-space, tableMemory, memory-stands}
 use Rattle.walk.specs.Walk.{modeOf, knownMode, queryDesc}
 use Rattle.walk.specs.Calls.{queryCall, answerOf, queryAnswer}
@@ -39,12 +39,12 @@ text-room = rw (le-ltb (length textRoom) textBytes (omega (arith, length-space t
 
 -- plain or linked
 module _ {m : List ℕ} {t : Table} (S : Stands m t) (d : Descriptor) (p cwd : List ℕ) where
-  pub ask-on : (call : Call) (link : Link) {numbers : Numbering} → recordRoom 1 link ≡ ok numbers → (response : ℕ)
+  pub ask-on : (call : Call) (link : Link) {numbers : Numbering} → linkIn 1 link ≡ ok numbers → (response : ℕ)
       → askCall call link m textRoom d p cwd response ≡ andThen (knownResponse (responseOf response)) (λ known. settled call numbers t d p cwd known)
   unfolding askCall andThen
   ask-on call link room response = rw (table-in S, text-room, room)
 
-  pub revoke-on : (link : Link) {numbers : Numbering} → recordRoom 1 link ≡ ok numbers
+  pub revoke-on : (link : Link) {numbers : Numbering} → linkIn 1 link ≡ ok numbers
       → revokeCall link m d p cwd ≡ andThen (given d p cwd) (λ q. carriedOut numbers t (revokeDesc t q))
   unfolding revokeCall andThen
   revoke-on link room = rw (table-in S, room)

@@ -39,8 +39,8 @@ use Rattle.table.specs.Acts.{
   applyActs,
 }
 use Rattle.table.specs.Memory.{doActs}
-use Rattle.table.specs.Carrying.{plain, linked, usedUp, carryCause, actsOf}
-use Rattle.table.specs.Calls.{recordSpace, recordRoom}
+use Rattle.table.specs.Carrying.{plain, linked, isRun, usedUp, carryCause, actsOf}
+use Rattle.table.specs.Calls.{recordSpace, linkIn}
 use Rattle.table.proofs.ActLaws.{applied-append}
 use Rattle.table.proofs.CallLaws.{room-plain}
 use Rattle.table.proofs.StandingLaws.{allFit, Stands, stands-then, spaceOf, length-space, tableMemory, memory-stands}
@@ -127,8 +127,9 @@ run-then {done} {new} R S f = record {
 abbrev wordRoom : List ℕ
 wordRoom = spaceOf recordSpace
 
-word-room : recordRoom 1 (linked 0 wordRoom) ≡ ok (After 0)
-word-room = a-room 0 wordRoom (omega (arith, length-space recordSpace))
+word-room : linkIn 1 (linked 1 0 wordRoom) ≡ ok (After 0)
+unfolding isRun
+word-room = a-room 1 0 wordRoom (omega (arith, length-space recordSpace)) refl
 
 module _ {m : List ℕ} {t : Table} (S : Stands m t) (d : Descriptor) (p : List ℕ) (c : Result Decision) where
   ask-steps : (call : Call) (response : ℕ) → andThen (knownResponse (responseOf response)) (λ known. settled call Plain t d p [] known) ≡ c
@@ -143,12 +144,12 @@ module _ {m : List ℕ} {t : Table} (S : Stands m t) (d : Descriptor) (p : List 
       → Answered (saysNo target) (askedIn c) (queryOf d (resolve p [])) response → Steps m (actsIn c) (linkedAsking call d p response (askedIn c) (answerIn c))
   unfolding lineOf
   linked-ask-steps call response e f =
-      let comes = ask-on S d p [] call (linked 0 wordRoom) word-room response ∙ e in
+      let comes = ask-on S d p [] call (linked 1 0 wordRoom) word-room response ∙ e in
       record {
         step =
-            operator.linkedAsks call 0 textRoom wordRoom d p [] response _ _ _
-            (record { answered = resultOf c d p []; words = length (allWords (numbered 0 (actsIn c))) })
-            (record { answers = answers-of d p [] textRoom comes; sends = sends-of 0 m wordRoom (ap actsIn comes) })
+            operator.linkedAsks call 1 0 textRoom wordRoom d p [] response _ _ _
+            (record { answered = resultOf c d p []; words = length (allWords (numbered 1 0 (actsIn c))) })
+            (record { answers = answers-of d p [] textRoom comes; sends = sends-of 1 0 m wordRoom (ap actsIn comes) })
             f;
         is = refl;
       }
@@ -162,11 +163,11 @@ module _ {m : List ℕ} {t : Table} (S : Stands m t) (d : Descriptor) (p : List 
   linked-revoke-steps : andThen (given d p []) (λ q. carriedOut (After 0) t (revokeDesc t q)) ≡ c → Steps m (actsIn c) (linkedRevoking d p (answerIn c))
   unfolding lineOf
   linked-revoke-steps e =
-      let comes = revoke-on S d p [] (linked 0 wordRoom) word-room ∙ e in
+      let comes = revoke-on S d p [] (linked 1 0 wordRoom) word-room ∙ e in
       record {
         step =
-            operator.linkedRevokes 0 wordRoom d p [] _ _ (record { answer = answerIn c; words = length (allWords (numbered 0 (actsIn c))) })
-            (record { answer = rw comes; sends = sends-of 0 m wordRoom (ap actsIn comes) });
+            operator.linkedRevokes 1 0 wordRoom d p [] _ _ (record { answer = answerIn c; words = length (allWords (numbered 1 0 (actsIn c))) })
+            (record { answer = rw comes; sends = sends-of 1 0 m wordRoom (ap actsIn comes) });
         is = refl;
       }
 

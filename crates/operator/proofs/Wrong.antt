@@ -162,18 +162,18 @@ record Implies (P : Promises) : Type 0 where
   asks : (call : Call) {m s : List ℕ} {d : Descriptor} {p cwd : List ℕ} {response : ℕ} {m′ s′ : List ℕ} {r : Asked}
       → P .asks call m s d p cwd response m′ s′ r → Asks call m s d p cwd response m′ s′ r
   revokes : {m : List ℕ} {d : Descriptor} {p cwd m′ : List ℕ} {r : Answer} → P .revokes m d p cwd m′ r → Revokes m d p cwd m′ r
-  linkedAsks : (call : Call) {m : List ℕ} {n : ℕ} {s w : List ℕ} {d : Descriptor} {p cwd : List ℕ} {response : ℕ} {m′ : List ℕ} {n′ : ℕ} {s′ w′ : List ℕ} {r : AskSent}
-      → P .linkedAsks call m n s w d p cwd response m′ n′ s′ w′ r → LinkedAsks call m n s w d p cwd response m′ n′ s′ w′ r
-  linkedRevokes : {m : List ℕ} {n : ℕ} {w : List ℕ} {d : Descriptor} {p cwd m′ : List ℕ} {n′ : ℕ} {w′ : List ℕ} {r : RevokeSent}
-      → P .linkedRevokes m n w d p cwd m′ n′ w′ r → LinkedRevokes m n w d p cwd m′ n′ w′ r
+  linkedAsks : (call : Call) {m : List ℕ} {run n : ℕ} {s w : List ℕ} {d : Descriptor} {p cwd : List ℕ} {response : ℕ} {m′ : List ℕ} {n′ : ℕ} {s′ w′ : List ℕ} {r : AskSent}
+      → P .linkedAsks call m run n s w d p cwd response m′ n′ s′ w′ r → LinkedAsks call m run n s w d p cwd response m′ n′ s′ w′ r
+  linkedRevokes : {m : List ℕ} {run n : ℕ} {w : List ℕ} {d : Descriptor} {p cwd m′ : List ℕ} {n′ : ℕ} {w′ : List ℕ} {r : RevokeSent}
+      → P .linkedRevokes m run n w d p cwd m′ n′ w′ r → LinkedRevokes m run n w d p cwd m′ n′ w′ r
 
 module _ {P : Promises} (F : Implies P) where
   step-implies : {may : Operator} {m m′ : List ℕ} → Step P may m m′ → Step promised may m m′
   step-implies (operator.queries mode d p cwd r e same) = operator.queries mode d p cwd r e same
   step-implies (operator.asks call s d p cwd response s′ r A f) = operator.asks call s d p cwd response s′ r (F .asks call A) f
   step-implies (operator.revokes d p cwd r R) = operator.revokes d p cwd r (F .revokes R)
-  step-implies (operator.linkedAsks call n s w d p cwd response n′ s′ w′ r A f) = operator.linkedAsks call n s w d p cwd response n′ s′ w′ r (F .linkedAsks call A) f
-  step-implies (operator.linkedRevokes n w d p cwd n′ w′ r R) = operator.linkedRevokes n w d p cwd n′ w′ r (F .linkedRevokes R)
+  step-implies (operator.linkedAsks call run n s w d p cwd response n′ s′ w′ r A f) = operator.linkedAsks call run n s w d p cwd response n′ s′ w′ r (F .linkedAsks call A) f
+  step-implies (operator.linkedRevokes run n w d p cwd n′ w′ r R) = operator.linkedRevokes run n w d p cwd n′ w′ r (F .linkedRevokes R)
 
   script-implies : {may : Operator} {m m′ : List ℕ} → Script (Step P may) m m′ → Script (Step promised may) m m′
   script-implies start = start
@@ -181,8 +181,8 @@ module _ {P : Promises} (F : Implies P) where
 
   allowed-implies : {p m m′ : List ℕ} → Allowed P p m m′ → Allowed promised p m m′
   allowed-implies (operator.allowed call s p cwd response s′ r A Y) = operator.allowed call s p cwd response s′ r (F .asks call A) Y
-  allowed-implies (operator.linkedAllowed call n s w p cwd response n′ s′ w′ r A Y) =
-      operator.linkedAllowed call n s w p cwd response n′ s′ w′ r (F .linkedAsks call A) Y
+  allowed-implies (operator.linkedAllowed call run n s w p cwd response n′ s′ w′ r A Y) =
+      operator.linkedAllowed call run n s w p cwd response n′ s′ w′ r (F .linkedAsks call A) Y
 
   claim-implies : Claim P
   claim-implies = record {

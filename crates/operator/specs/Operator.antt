@@ -87,9 +87,9 @@ Answered operator asked q response = asked ≡ true → (answer : PromptResponse
 pub record Promises : Type 1 where
   pub asks : (call : Call) (m s : List ℕ) (d : Descriptor) (p cwd : List ℕ) (response : ℕ) (m′ s′ : List ℕ) (r : Asked) → Type 0
   pub revokes : (m : List ℕ) (d : Descriptor) (p cwd m′ : List ℕ) (r : Answer) → Type 0
-  pub linkedAsks : (call : Call) (m : List ℕ) (n : ℕ) (s w : List ℕ) (d : Descriptor) (p cwd : List ℕ) (response : ℕ) (m′ : List ℕ) (n′ : ℕ)
+  pub linkedAsks : (call : Call) (m : List ℕ) (run n : ℕ) (s w : List ℕ) (d : Descriptor) (p cwd : List ℕ) (response : ℕ) (m′ : List ℕ) (n′ : ℕ)
       (s′ w′ : List ℕ) (r : AskSent) → Type 0
-  pub linkedRevokes : (m : List ℕ) (n : ℕ) (w : List ℕ) (d : Descriptor) (p cwd m′ : List ℕ) (n′ : ℕ) (w′ : List ℕ) (r : RevokeSent) → Type 0
+  pub linkedRevokes : (m : List ℕ) (run n : ℕ) (w : List ℕ) (d : Descriptor) (p cwd m′ : List ℕ) (n′ : ℕ) (w′ : List ℕ) (r : RevokeSent) → Type 0
 
 -- the calls' own
 abbrev pub promised : Promises
@@ -111,13 +111,13 @@ pub data Step (P : Promises) (operator : Operator) (m m′ : List ℕ) : Type 0 
   revokes : (d : Descriptor) (given cwd : List ℕ) (r : Answer)
       → P .revokes m d given cwd m′ r
       → Step P operator m m′
-  -- the same linked, after any number n and with any record space w
-  linkedAsks : (call : Call) (n : ℕ) (s w : List ℕ) (d : Descriptor) (given cwd : List ℕ) (response n′ : ℕ) (s′ w′ : List ℕ) (r : AskSent)
-      → P .linkedAsks call m n s w d given cwd response m′ n′ s′ w′ r
+  -- the same linked, handed any run number, after any number n and with any record space w
+  linkedAsks : (call : Call) (run n : ℕ) (s w : List ℕ) (d : Descriptor) (given cwd : List ℕ) (response n′ : ℕ) (s′ w′ : List ℕ) (r : AskSent)
+      → P .linkedAsks call m run n s w d given cwd response m′ n′ s′ w′ r
       → Answered operator (r .answered .asked) (queryOf d (resolve given cwd)) response
       → Step P operator m m′
-  linkedRevokes : (n : ℕ) (w : List ℕ) (d : Descriptor) (given cwd : List ℕ) (n′ : ℕ) (w′ : List ℕ) (r : RevokeSent)
-      → P .linkedRevokes m n w d given cwd m′ n′ w′ r
+  linkedRevokes : (run n : ℕ) (w : List ℕ) (d : Descriptor) (given cwd : List ℕ) (n′ : ℕ) (w′ : List ℕ) (r : RevokeSent)
+      → P .linkedRevokes m run n w d given cwd m′ n′ w′ r
       → Step P operator m m′
 
 -- steps one after the other, from memory m on
@@ -139,8 +139,8 @@ pub data Allowed (P : Promises) (p m m′ : List ℕ) : Type 0 where
       → P .asks call m s Path given cwd response m′ s′ r
       → IsYes p given cwd (r .asked) response
       → Allowed P p m m′
-  linkedAllowed : (call : Call) (n : ℕ) (s w given cwd : List ℕ) (response n′ : ℕ) (s′ w′ : List ℕ) (r : AskSent)
-      → P .linkedAsks call m n s w Path given cwd response m′ n′ s′ w′ r
+  linkedAllowed : (call : Call) (run n : ℕ) (s w given cwd : List ℕ) (response n′ : ℕ) (s′ w′ : List ℕ) (r : AskSent)
+      → P .linkedAsks call m run n s w Path given cwd response m′ n′ s′ w′ r
       → IsYes p given cwd (r .answered .asked) response
       → Allowed P p m m′
 

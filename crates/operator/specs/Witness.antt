@@ -45,8 +45,8 @@ unfoldable pub lineOf : {operator : Operator} {m m′ : List ℕ} → Step promi
 lineOf (queries mode d p cwd r promise same) = querying mode d p r
 lineOf (asks call s d p cwd response s′ r promise answered) = asking call d p response (r .asked) (r .answer)
 lineOf (revokes d p cwd r promise) = revoking d p r
-lineOf (linkedAsks call n s w d p cwd response n′ s′ w′ r promise answered) = linkedAsking call d p response (r .answered .asked) (r .answered .answer)
-lineOf (linkedRevokes n w d p cwd n′ w′ r promise) = linkedRevoking d p (r .answer)
+lineOf (linkedAsks call run n s w d p cwd response n′ s′ w′ r promise answered) = linkedAsking call d p response (r .answered .asked) (r .answered .answer)
+lineOf (linkedRevokes run n w d p cwd n′ w′ r promise) = linkedRevoking d p (r .answer)
 
 unfoldable pub lines : {operator : Operator} {m m′ : List ℕ} → Script (Step promised operator) m m′ → List Line
 lines start = []

@@ -14,7 +14,7 @@ use Rattle.table.specs.Tables.{Table, has, prompt, marksOf}
 use Rattle.table.specs.Acts.{without, applyAct}
 use Rattle.table.specs.Memory.{doActs}
 use Rattle.table.specs.Carrying.{plain}
-use Rattle.table.specs.Calls.{tableIn, recordRoom, putIn}
+use Rattle.table.specs.Calls.{tableIn, linkIn, putIn}
 use Rattle.walk.specs.declared.PermissionState.{PermissionState}
 use Rattle.walk.specs.declared.PermissionState.the-variants.{
   Granted,
@@ -49,7 +49,7 @@ abbrev pub askCallBy : Deciding → Call → List ℕ → List ℕ → Descripto
 askCallBy deciding call m s d p cwd response =
     andThen (tableIn m) (λ t.
     andThen (textSpace s) (λ space.
-    andThen (recordRoom 1 plain) (λ numbers.
+    andThen (linkIn 1 plain) (λ numbers.
     andThen (knownResponse (responseOf response)) (λ known.
     andThen (given d p cwd) (λ q.
     carriedOut numbers t (deciding call t q known))))))

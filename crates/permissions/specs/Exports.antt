@@ -28,6 +28,7 @@ use Rattle.link.specs.declared.AskSent.{AskSent}
 use Rattle.link.specs.declared.RevokeSent.{RevokeSent}
 use Rattle.link.specs.declared.ChildSent.{ChildSent}
 use Rattle.link.specs.declared.ImageSent.{ImageSent}
+use Rattle.link.specs.Beginning.{BeginsRun}
 use Rattle.link.specs.Linked.{LinkedInserts, LinkedSwitches, LinkedAsks, LinkedRevokes, LinkedChild}
 use Rattle.link.specs.Imaging.{WritesImage}
 use Rattle.standby.specs.declared.Arrival.{Arrival}
@@ -160,6 +161,10 @@ pub record ExportedEntry (m : List ℕ) (place kind at size : ℕ) (r : ℤ) : T
 
 -- ---- linked calls: n and w are the main's number and the record space, n′ and w′ the same after the call, and k words hold records
 
+-- a run begins
+abbrev pub ExportedBegin : List ℕ → ℕ → ℕ → List ℕ → ℕ → ℤ → Type 0
+ExportedBegin m run n m′ n′ r = Exported Outcome outcomeNumber (BeginsRun m run n m′ n′) r
+
 -- an insert, or switches set
 pub record ExportedSent (Promise : Sent → Type 0) (k : ℕ) (r : ℤ) : Type 0 where
   pub answered : Sent
@@ -167,61 +172,60 @@ pub record ExportedSent (Promise : Sent → Type 0) (k : ℕ) (r : ℤ) : Type 0
   pub number : r ≡ outcomeNumber (answered .outcome)
   pub words : k ≡ answered .words
 
-abbrev pub ExportedLinkedInsert : List ℕ → ℕ → List ℕ → ℕ → List ℕ → List ℕ → List ℕ → ℕ → List ℕ → ℕ → ℤ → Type 0
-ExportedLinkedInsert m n w kind p cwd m′ n′ w′ k r = ExportedSent (LinkedInserts m n w kind p cwd m′ n′ w′) k r
+abbrev pub ExportedLinkedInsert : List ℕ → ℕ → ℕ → List ℕ → ℕ → List ℕ → List ℕ → List ℕ → ℕ → List ℕ → ℕ → ℤ → Type 0
+ExportedLinkedInsert m run n w kind p cwd m′ n′ w′ k r = ExportedSent (LinkedInserts m run n w kind p cwd m′ n′ w′) k r
 
-abbrev pub ExportedLinkedSwitches : List ℕ → ℕ → List ℕ → ℕ → List ℕ → ℕ → List ℕ → ℕ → ℤ → Type 0
-ExportedLinkedSwitches m n w v m′ n′ w′ k r = ExportedSent (LinkedSwitches m n w v m′ n′ w′) k r
+abbrev pub ExportedLinkedSwitches : List ℕ → ℕ → ℕ → List ℕ → ℕ → List ℕ → ℕ → List ℕ → ℕ → ℤ → Type 0
+ExportedLinkedSwitches m run n w v m′ n′ w′ k r = ExportedSent (LinkedSwitches m run n w v m′ n′ w′) k r
 
 -- whether the operator was asked, and the text's size
-pub record ExportedLinkedAsk (call : Call) (m : List ℕ) (n : ℕ) (s w : List ℕ) (d : Descriptor) (p cwd : List ℕ) (response : ℕ) (m′ : List ℕ) (n′ : ℕ)
+pub record ExportedLinkedAsk (call : Call) (m : List ℕ) (run n : ℕ) (s w : List ℕ) (d : Descriptor) (p cwd : List ℕ) (response : ℕ) (m′ : List ℕ) (n′ : ℕ)
     (s′ w′ : List ℕ) (told size k : ℕ) (r : ℤ) : Type 0 where
   pub answered : AskSent
-  pub promise : LinkedAsks call m n s w d p cwd response m′ n′ s′ w′ answered
+  pub promise : LinkedAsks call m run n s w d p cwd response m′ n′ s′ w′ answered
   pub number : r ≡ answerNumber (answered .answered .answer)
   pub asked : told ≡ askedNumber (answered .answered .asked)
   pub text : size ≡ answered .answered .text
   pub words : k ≡ answered .words
 
 -- the state afterwards
-pub record ExportedLinkedRevoke (m : List ℕ) (n : ℕ) (w : List ℕ) (d : Descriptor) (p cwd m′ : List ℕ) (n′ : ℕ) (w′ : List ℕ) (k : ℕ) (r : ℤ) : Type 0 where
+pub record ExportedLinkedRevoke (m : List ℕ) (run n : ℕ) (w : List ℕ) (d : Descriptor) (p cwd m′ : List ℕ) (n′ : ℕ) (w′ : List ℕ) (k : ℕ) (r : ℤ) : Type 0 where
   pub answered : RevokeSent
-  pub promise : LinkedRevokes m n w d p cwd m′ n′ w′ answered
+  pub promise : LinkedRevokes m run n w d p cwd m′ n′ w′ answered
   pub number : r ≡ answerNumber (answered .answer)
   pub words : k ≡ answered .words
 
 -- how often the operator was asked
-pub record ExportedLinkedChild (m : List ℕ) (n : ℕ) (c w : List ℕ) (code : ℕ) (bytes ends responses cwd m′ : List ℕ) (n′ : ℕ) (c′ w′ : List ℕ)
+pub record ExportedLinkedChild (m : List ℕ) (run n : ℕ) (c w : List ℕ) (code : ℕ) (bytes ends responses cwd m′ : List ℕ) (n′ : ℕ) (c′ w′ : List ℕ)
     (told k : ℕ) (r : ℤ) : Type 0 where
   pub answered : ChildSent
-  pub promise : LinkedChild m n c w code bytes ends responses cwd m′ n′ c′ w′ answered
+  pub promise : LinkedChild m run n c w code bytes ends responses cwd m′ n′ c′ w′ answered
   pub number : r ≡ outcomeNumber (answered .made .outcome)
   pub asked : told ≡ answered .made .asked
   pub words : k ≡ answered .words
 
 -- the image: memory and number stay, and k words are what it takes
-pub record ExportedImage (m : List ℕ) (n : ℕ) (w w′ : List ℕ) (k : ℕ) (r : ℤ) : Type 0 where
+pub record ExportedImage (m : List ℕ) (run n : ℕ) (w w′ : List ℕ) (k : ℕ) (r : ℤ) : Type 0 where
   pub answered : ImageSent
-  pub promise : WritesImage m n w w′ answered
+  pub promise : WritesImage m run n w w′ answered
   pub number : r ≡ outcomeNumber (answered .outcome)
   pub words : k ≡ answered .words
 
--- ---- the standby: n and h are its two numbers, n′ and h′ the same after the arrival
+-- ---- the standby: s and s′ are its numbers before and after the arrival
 
-pub record ExportedArrival (Promise : Numbers → Arrival → Type 0) (n′ h′ : ℕ) (r : ℤ) : Type 0 where
-  pub answered : Arrival
-  pub promise : Promise (record { n = n′; h = h′ }) answered
-  pub number : r ≡ arrivalNumber answered
+-- the numbers as C lends them, one by one
+abbrev pub numbersOf : ℕ → ℕ → ℕ → ℕ → Numbers
+numbersOf n h run highest = record { n = n; h = h; run = run; highest = highest }
 
-abbrev pub ExportedArrive : List ℕ → List ℕ → ℕ → ℕ → List ℕ → ℕ → ℕ → ℤ → Type 0
-ExportedArrive m words n h m′ n′ h′ r = ExportedArrival (Arrives m words (record { n = n; h = h }) m′) n′ h′ r
+abbrev pub ExportedArrive : List ℕ → List ℕ → Numbers → List ℕ → Numbers → ℤ → Type 0
+ExportedArrive m words s m′ s′ r = Exported Arrival arrivalNumber (Arrives m words s m′ s′) r
 
-abbrev pub ExportedArriveImage : List ℕ → List ℕ → ℕ → ℕ → List ℕ → ℕ → ℕ → ℤ → Type 0
-ExportedArriveImage m words n h m′ n′ h′ r = ExportedArrival (Loads m words (record { n = n; h = h }) m′) n′ h′ r
+abbrev pub ExportedArriveImage : List ℕ → List ℕ → Numbers → List ℕ → Numbers → ℤ → Type 0
+ExportedArriveImage m words s m′ s′ r = Exported Arrival arrivalNumber (Loads m words s m′ s′) r
 
 -- how much is owed
-pub record ExportedOwed (n h k : ℕ) (r : ℤ) : Type 0 where
+pub record ExportedOwed (s : Numbers) (k : ℕ) (r : ℤ) : Type 0 where
   pub answered : Owed
-  pub promise : Owes (record { n = n; h = h }) answered
+  pub promise : Owes s answered
   pub number : r ≡ owedNumber answered
   pub count : k ≡ owedCount answered

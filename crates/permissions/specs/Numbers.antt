@@ -71,7 +71,7 @@ abbrev pub listedSize : Listed → ℕ
 listedSize (listed.Entry kind start size) = size
 listedSize listed.Nothing = 0
 
--- an arrival: 0 applied, 1 a repeat, 2 early, or a refusal
+-- an arrival: 0 applied, 1 a repeat, 2 early, 3 an image taken, or a refusal
 abbrev pub arrivalNumber : Arrival → ℤ
 arrivalNumber arrival.Applied = pos 0
 arrivalNumber arrival.Repeat = pos 1

@@ -1,4 +1,4 @@
-// The standby's half of the link, for C: a record or an image that arrives, and what is owed. The standby's two numbers are lent one by one.
+// The standby's half of the link, for C: a record or an image that arrives, and what is owed. The standby's four numbers are lent one by one.
 use crate::refused;
 use standby::Arrival;
 use standby::Numbers;
@@ -8,7 +8,7 @@ use standby::loading::take_image;
 use standby::owing::owed;
 ghost use mathlib.Core.Path.{_≡_};
 ghost use Rattle.permissions.specs.Numbers.{arrivalNumber};
-ghost use Rattle.permissions.specs.Exports.{ExportedArrive, ExportedArriveImage, ExportedOwed};
+ghost use Rattle.permissions.specs.Exports.{numbersOf, ExportedArrive, ExportedArriveImage, ExportedOwed};
 
 fn arrival_number(answer: Arrival) -> i32
     ensures { λ r. ⌜ r ≡ arrivalNumber answer ⌝ }
@@ -24,41 +24,67 @@ fn arrival_number(answer: Arrival) -> i32
 
 // Takes the record that the lent words are.
 #[no_mangle]
-pub extern "C" fn permissions_arrive(mem: &mut [u8], n: &mut u64, h: &mut u64, words: &[u32]) -> i32
-    ensures { λ r. ⌜ ExportedArrive (now (mem .entry)) (now (words .entry)) (now (n .entry)) (now (h .entry)) (now (mem .exit)) (now (n .exit)) (now (h .exit)) r ⌝ }
+pub extern "C" fn permissions_arrive(
+    mem: &mut [u8],
+    n: &mut u64,
+    h: &mut u64,
+    run: &mut u32,
+    highest: &mut u32,
+    words: &[u32],
+) -> i32
+    ensures { λ r. ⌜ ExportedArrive (now (mem .entry)) (now (words .entry)) (numbersOf (now (n .entry)) (now (h .entry)) (now (run .entry)) (now (highest .entry))) (now (mem .exit)) (numbersOf (now (n .exit)) (now (h .exit)) (now (run .exit)) (now (highest .exit))) r ⌝ }
 {
-    let arrived = take_record(mem, words, Numbers { n: *n, h: *h });
+    let before = Numbers {
+        n: *n,
+        h: *h,
+        run: *run,
+        highest: *highest,
+    };
+    let arrived = take_record(mem, words, before);
     let numbers = arrived.numbers;
     *n = numbers.n;
     *h = numbers.h;
+    *run = numbers.run;
+    *highest = numbers.highest;
     let answer = arrived.answer;
     arrival_number(answer)
 }
 
-// Takes the table and the number of the image that the lent words are, if n is below its number.
+// Takes the table, the run and the number of the image that the lent words are, unless it is a repeat.
 #[no_mangle]
 pub extern "C" fn permissions_arrive_image(
     mem: &mut [u8],
     n: &mut u64,
     h: &mut u64,
+    run: &mut u32,
+    highest: &mut u32,
     words: &[u32],
 ) -> i32
-    ensures { λ r. ⌜ ExportedArriveImage (now (mem .entry)) (now (words .entry)) (now (n .entry)) (now (h .entry)) (now (mem .exit)) (now (n .exit)) (now (h .exit)) r ⌝ }
+    ensures { λ r. ⌜ ExportedArriveImage (now (mem .entry)) (now (words .entry)) (numbersOf (now (n .entry)) (now (h .entry)) (now (run .entry)) (now (highest .entry))) (now (mem .exit)) (numbersOf (now (n .exit)) (now (h .exit)) (now (run .exit)) (now (highest .exit))) r ⌝ }
 {
-    let arrived = take_image(mem, words, Numbers { n: *n, h: *h });
+    let before = Numbers {
+        n: *n,
+        h: *h,
+        run: *run,
+        highest: *highest,
+    };
+    let arrived = take_image(mem, words, before);
     let numbers = arrived.numbers;
     *n = numbers.n;
     *h = numbers.h;
+    *run = numbers.run;
+    *highest = numbers.highest;
     let answer = arrived.answer;
     arrival_number(answer)
 }
 
 // How many changes are owed, to `count`.
 #[no_mangle]
-pub extern "C" fn permissions_owed(n: u64, h: u64, count: &mut u64) -> i32
-    ensures { λ r. ⌜ ExportedOwed n h (now (count .exit)) r ⌝ }
+pub extern "C" fn permissions_owed(n: u64, h: u64, run: u32, highest: u32, count: &mut u64) -> i32
+    ensures { λ r. ⌜ ExportedOwed (numbersOf n h run highest) (now (count .exit)) r ⌝ }
 {
-    match owed(Numbers { n, h }) {
+    let numbers = Numbers { n, h, run, highest };
+    match owed(numbers) {
         Owed::Changes(k) => {
             *count = k;
             0

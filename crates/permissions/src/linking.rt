@@ -1,10 +1,11 @@
-// The main's half of the link, for C: each call that changes a table, with the main's number and the record space lent beside it. How many words hold
-// records goes to `count`, which every call writes. And the main's whole table as one image.
+// The main's half of the link, for C: the beginning of a run; each call that changes a table, handed the run number, with the main's number and the record
+// space lent beside it, where how many words hold records goes to `count`, which every call writes; and the main's whole table as one image.
 use crate::answer_number;
 use crate::asked_number;
 use crate::outcome_number;
 use calls::Call;
 use link::asking;
+use link::beginning::begin_run;
 use link::creating;
 use link::imaging;
 use link::inserting;
@@ -15,6 +16,7 @@ ghost use mathlib.Core.List.{[]};
 ghost use Rattle.paths.specs.declared.Descriptor.the-variants.{NoPath, Path};
 ghost use Rattle.calls.specs.declared.Call.the-variants.{Check, Request};
 ghost use Rattle.permissions.specs.Exports.{
+  ExportedBegin,
   ExportedLinkedInsert,
   ExportedLinkedSwitches,
   ExportedLinkedAsk,
@@ -23,12 +25,23 @@ ghost use Rattle.permissions.specs.Exports.{
   ExportedImage,
 };
 
+// ---- a run
+
+// Begins a run: a fresh table, and the number 0.
+#[no_mangle]
+pub extern "C" fn permissions_begin_run(mem: &mut [u8], run: u32, number: &mut u64) -> i32
+    ensures { λ r. ⌜ ExportedBegin (now (mem .entry)) run (now (number .entry)) (now (mem .exit)) (now (number .exit)) r ⌝ }
+{
+    outcome_number(begin_run(mem, run, number))
+}
+
 // ---- insert and switches
 
 // Inserts an entry of a kind, and records it.
 #[no_mangle]
 pub extern "C" fn permissions_linked_insert(
     mem: &mut [u8],
+    run: u32,
     number: &mut u64,
     kind: u32,
     path: &[u8],
@@ -36,9 +49,9 @@ pub extern "C" fn permissions_linked_insert(
     words: &mut [u32],
     count: &mut usize,
 ) -> i32
-    ensures { λ r. ⌜ ExportedLinkedInsert (now (mem .entry)) (now (number .entry)) (now (words .entry)) kind (now (path .entry)) (now (cwd .entry)) (now (mem .exit)) (now (number .exit)) (now (words .exit)) (now (count .exit)) r ⌝ }
+    ensures { λ r. ⌜ ExportedLinkedInsert (now (mem .entry)) run (now (number .entry)) (now (words .entry)) kind (now (path .entry)) (now (cwd .entry)) (now (mem .exit)) (now (number .exit)) (now (words .exit)) (now (count .exit)) r ⌝ }
 {
-    let sent = inserting::insert(mem, number, words, kind, path, cwd);
+    let sent = inserting::insert(mem, run, number, words, kind, path, cwd);
     *count = sent.words;
     let outcome = sent.outcome;
     outcome_number(outcome)
@@ -48,14 +61,15 @@ pub extern "C" fn permissions_linked_insert(
 #[no_mangle]
 pub extern "C" fn permissions_linked_switches(
     mem: &mut [u8],
+    run: u32,
     number: &mut u64,
     switches: u32,
     words: &mut [u32],
     count: &mut usize,
 ) -> i32
-    ensures { λ r. ⌜ ExportedLinkedSwitches (now (mem .entry)) (now (number .entry)) (now (words .entry)) switches (now (mem .exit)) (now (number .exit)) (now (words .exit)) (now (count .exit)) r ⌝ }
+    ensures { λ r. ⌜ ExportedLinkedSwitches (now (mem .entry)) run (now (number .entry)) (now (words .entry)) switches (now (mem .exit)) (now (number .exit)) (now (words .exit)) (now (count .exit)) r ⌝ }
 {
-    let sent = switching::set_switches(mem, number, words, switches);
+    let sent = switching::set_switches(mem, run, number, words, switches);
     *count = sent.words;
     let outcome = sent.outcome;
     outcome_number(outcome)
@@ -66,6 +80,7 @@ pub extern "C" fn permissions_linked_switches(
 // Checks or requests, and records the act, if there is one. Whether the operator was asked goes to `told`, and the text's size to `size`.
 fn linked_asked(
     mem: &mut [u8],
+    run: u32,
     number: &mut u64,
     call: Call,
     d: Descriptor,
@@ -78,9 +93,9 @@ fn linked_asked(
     size: &mut usize,
     count: &mut usize,
 ) -> i32
-    ensures { λ r. ⌜ ExportedLinkedAsk call (now (mem .entry)) (now (number .entry)) (now (space .entry)) (now (words .entry)) d (now (path .entry)) (now (cwd .entry)) response (now (mem .exit)) (now (number .exit)) (now (space .exit)) (now (words .exit)) (now (told .exit)) (now (size .exit)) (now (count .exit)) r ⌝ }
+    ensures { λ r. ⌜ ExportedLinkedAsk call (now (mem .entry)) run (now (number .entry)) (now (space .entry)) (now (words .entry)) d (now (path .entry)) (now (cwd .entry)) response (now (mem .exit)) (now (number .exit)) (now (space .exit)) (now (words .exit)) (now (told .exit)) (now (size .exit)) (now (count .exit)) r ⌝ }
 {
-    let sent = asking::ask(mem, number, words, call, d, path, cwd, response, space);
+    let sent = asking::ask(mem, run, number, words, call, d, path, cwd, response, space);
     let asked = sent.answered;
     *told = asked_number(asked.asked);
     *size = asked.text;
@@ -93,6 +108,7 @@ fn linked_asked(
 #[no_mangle]
 pub extern "C" fn permissions_linked_check(
     mem: &mut [u8],
+    run: u32,
     number: &mut u64,
     path: &[u8],
     cwd: &[u8],
@@ -103,10 +119,11 @@ pub extern "C" fn permissions_linked_check(
     size: &mut usize,
     count: &mut usize,
 ) -> i32
-    ensures { λ r. ⌜ ExportedLinkedAsk Check (now (mem .entry)) (now (number .entry)) (now (space .entry)) (now (words .entry)) Path (now (path .entry)) (now (cwd .entry)) response (now (mem .exit)) (now (number .exit)) (now (space .exit)) (now (words .exit)) (now (told .exit)) (now (size .exit)) (now (count .exit)) r ⌝ }
+    ensures { λ r. ⌜ ExportedLinkedAsk Check (now (mem .entry)) run (now (number .entry)) (now (space .entry)) (now (words .entry)) Path (now (path .entry)) (now (cwd .entry)) response (now (mem .exit)) (now (number .exit)) (now (space .exit)) (now (words .exit)) (now (told .exit)) (now (size .exit)) (now (count .exit)) r ⌝ }
 {
     linked_asked(
         mem,
+        run,
         number,
         Call::Check,
         Descriptor::Path,
@@ -125,6 +142,7 @@ pub extern "C" fn permissions_linked_check(
 #[no_mangle]
 pub extern "C" fn permissions_linked_check_all(
     mem: &mut [u8],
+    run: u32,
     number: &mut u64,
     response: u32,
     space: &mut [u8],
@@ -133,10 +151,11 @@ pub extern "C" fn permissions_linked_check_all(
     size: &mut usize,
     count: &mut usize,
 ) -> i32
-    ensures { λ r. ⌜ ExportedLinkedAsk Check (now (mem .entry)) (now (number .entry)) (now (space .entry)) (now (words .entry)) NoPath [] [] response (now (mem .exit)) (now (number .exit)) (now (space .exit)) (now (words .exit)) (now (told .exit)) (now (size .exit)) (now (count .exit)) r ⌝ }
+    ensures { λ r. ⌜ ExportedLinkedAsk Check (now (mem .entry)) run (now (number .entry)) (now (space .entry)) (now (words .entry)) NoPath [] [] response (now (mem .exit)) (now (number .exit)) (now (space .exit)) (now (words .exit)) (now (told .exit)) (now (size .exit)) (now (count .exit)) r ⌝ }
 {
     linked_asked(
         mem,
+        run,
         number,
         Call::Check,
         Descriptor::NoPath,
@@ -155,6 +174,7 @@ pub extern "C" fn permissions_linked_check_all(
 #[no_mangle]
 pub extern "C" fn permissions_linked_request(
     mem: &mut [u8],
+    run: u32,
     number: &mut u64,
     path: &[u8],
     cwd: &[u8],
@@ -165,10 +185,11 @@ pub extern "C" fn permissions_linked_request(
     size: &mut usize,
     count: &mut usize,
 ) -> i32
-    ensures { λ r. ⌜ ExportedLinkedAsk Request (now (mem .entry)) (now (number .entry)) (now (space .entry)) (now (words .entry)) Path (now (path .entry)) (now (cwd .entry)) response (now (mem .exit)) (now (number .exit)) (now (space .exit)) (now (words .exit)) (now (told .exit)) (now (size .exit)) (now (count .exit)) r ⌝ }
+    ensures { λ r. ⌜ ExportedLinkedAsk Request (now (mem .entry)) run (now (number .entry)) (now (space .entry)) (now (words .entry)) Path (now (path .entry)) (now (cwd .entry)) response (now (mem .exit)) (now (number .exit)) (now (space .exit)) (now (words .exit)) (now (told .exit)) (now (size .exit)) (now (count .exit)) r ⌝ }
 {
     linked_asked(
         mem,
+        run,
         number,
         Call::Request,
         Descriptor::Path,
@@ -187,6 +208,7 @@ pub extern "C" fn permissions_linked_request(
 #[no_mangle]
 pub extern "C" fn permissions_linked_request_all(
     mem: &mut [u8],
+    run: u32,
     number: &mut u64,
     response: u32,
     space: &mut [u8],
@@ -195,10 +217,11 @@ pub extern "C" fn permissions_linked_request_all(
     size: &mut usize,
     count: &mut usize,
 ) -> i32
-    ensures { λ r. ⌜ ExportedLinkedAsk Request (now (mem .entry)) (now (number .entry)) (now (space .entry)) (now (words .entry)) NoPath [] [] response (now (mem .exit)) (now (number .exit)) (now (space .exit)) (now (words .exit)) (now (told .exit)) (now (size .exit)) (now (count .exit)) r ⌝ }
+    ensures { λ r. ⌜ ExportedLinkedAsk Request (now (mem .entry)) run (now (number .entry)) (now (space .entry)) (now (words .entry)) NoPath [] [] response (now (mem .exit)) (now (number .exit)) (now (space .exit)) (now (words .exit)) (now (told .exit)) (now (size .exit)) (now (count .exit)) r ⌝ }
 {
     linked_asked(
         mem,
+        run,
         number,
         Call::Request,
         Descriptor::NoPath,
@@ -219,15 +242,16 @@ pub extern "C" fn permissions_linked_request_all(
 #[no_mangle]
 pub extern "C" fn permissions_linked_revoke(
     mem: &mut [u8],
+    run: u32,
     number: &mut u64,
     path: &[u8],
     cwd: &[u8],
     words: &mut [u32],
     count: &mut usize,
 ) -> i32
-    ensures { λ r. ⌜ ExportedLinkedRevoke (now (mem .entry)) (now (number .entry)) (now (words .entry)) Path (now (path .entry)) (now (cwd .entry)) (now (mem .exit)) (now (number .exit)) (now (words .exit)) (now (count .exit)) r ⌝ }
+    ensures { λ r. ⌜ ExportedLinkedRevoke (now (mem .entry)) run (now (number .entry)) (now (words .entry)) Path (now (path .entry)) (now (cwd .entry)) (now (mem .exit)) (now (number .exit)) (now (words .exit)) (now (count .exit)) r ⌝ }
 {
-    let sent = revoking::revoke(mem, number, words, Descriptor::Path, path, cwd);
+    let sent = revoking::revoke(mem, run, number, words, Descriptor::Path, path, cwd);
     *count = sent.words;
     let answer = sent.answer;
     answer_number(answer)
@@ -237,13 +261,14 @@ pub extern "C" fn permissions_linked_revoke(
 #[no_mangle]
 pub extern "C" fn permissions_linked_revoke_all(
     mem: &mut [u8],
+    run: u32,
     number: &mut u64,
     words: &mut [u32],
     count: &mut usize,
 ) -> i32
-    ensures { λ r. ⌜ ExportedLinkedRevoke (now (mem .entry)) (now (number .entry)) (now (words .entry)) NoPath [] [] (now (mem .exit)) (now (number .exit)) (now (words .exit)) (now (count .exit)) r ⌝ }
+    ensures { λ r. ⌜ ExportedLinkedRevoke (now (mem .entry)) run (now (number .entry)) (now (words .entry)) NoPath [] [] (now (mem .exit)) (now (number .exit)) (now (words .exit)) (now (count .exit)) r ⌝ }
 {
-    let sent = revoking::revoke(mem, number, words, Descriptor::NoPath, b"", b"");
+    let sent = revoking::revoke(mem, run, number, words, Descriptor::NoPath, b"", b"");
     *count = sent.words;
     let answer = sent.answer;
     answer_number(answer)
@@ -254,6 +279,7 @@ pub extern "C" fn permissions_linked_revoke_all(
 #[no_mangle]
 pub extern "C" fn permissions_linked_child(
     parent: &mut [u8],
+    run: u32,
     number: &mut u64,
     child: &mut [u8],
     code: u32,
@@ -265,10 +291,11 @@ pub extern "C" fn permissions_linked_child(
     told: &mut u32,
     count: &mut usize,
 ) -> i32
-    ensures { λ r. ⌜ ExportedLinkedChild (now (parent .entry)) (now (number .entry)) (now (child .entry)) (now (words .entry)) code (now (bytes .entry)) (now (ends .entry)) (now (responses .entry)) (now (cwd .entry)) (now (parent .exit)) (now (number .exit)) (now (child .exit)) (now (words .exit)) (now (told .exit)) (now (count .exit)) r ⌝ }
+    ensures { λ r. ⌜ ExportedLinkedChild (now (parent .entry)) run (now (number .entry)) (now (child .entry)) (now (words .entry)) code (now (bytes .entry)) (now (ends .entry)) (now (responses .entry)) (now (cwd .entry)) (now (parent .exit)) (now (number .exit)) (now (child .exit)) (now (words .exit)) (now (told .exit)) (now (count .exit)) r ⌝ }
 {
     let sent = creating::create_child_permissions(
         parent,
+        run,
         number,
         child,
         words,
@@ -287,17 +314,18 @@ pub extern "C" fn permissions_linked_child(
 
 // ---- an image
 
-// Writes the image of the table, with the main's number. How many words it takes goes to `count`, also where there is no room for them.
+// Writes the image of the table, with the main's run and number. How many words it takes goes to `count`, also where there is no room for them.
 #[no_mangle]
 pub extern "C" fn permissions_linked_image(
     mem: &[u8],
+    run: u32,
     number: u64,
     words: &mut [u32],
     count: &mut usize,
 ) -> i32
-    ensures { λ r. ⌜ ExportedImage (now (mem .entry)) number (now (words .entry)) (now (words .exit)) (now (count .exit)) r ⌝ }
+    ensures { λ r. ⌜ ExportedImage (now (mem .entry)) run number (now (words .entry)) (now (words .exit)) (now (count .exit)) r ⌝ }
 {
-    let sent = imaging::write_image(mem, number, words);
+    let sent = imaging::write_image(mem, run, number, words);
     *count = sent.words;
     let outcome = sent.outcome;
     outcome_number(outcome)

@@ -30,11 +30,13 @@ use Rattle.records.specs.Records.{
   headKind,
   lengthKind,
   switchesKind,
+  runKind,
   actUnit,
   kindOfWord,
   lowOfWord,
   actBits,
   numberBits,
+  isRunWord,
   isLength,
   isSwitches,
   actPath,
@@ -50,12 +52,13 @@ use Rattle.records.specs.Records.{
   readSwitches,
   readAct,
   withNumber,
+  readHead,
   readFirst,
 }
 use Rattle.records.specs.Answers.{recordAnswer, recordInto, ReadsRecord}
 use Rattle.records.specs.Words.{firstWord, behindFirst, frontAt}
-use Rattle.records.specs.Steps.{wordsFor, wordBytes, lengthOf, pathBehind, isPathAt, HandsOver, pathAnswer, pathInto, ReadsPath, pathAct, pathRecord, switchesRecord}
-use Rattle.records.proofs.WordLaws.{no-word, Headed}
+use Rattle.records.specs.Steps.{wordsFor, wordBytes, runOf, lengthOf, pathBehind, isPathAt, HandsOver, pathAnswer, pathInto, ReadsPath, pathAct, pathRecord, switchesRecord}
+use Rattle.records.proofs.WordLaws.{OfRun, Headed, run-alone}
 use Rattle.records.proofs.RecordLaws.{path-count, with-number}
 use Rattle.records.proofs.SpellingLaws.{spelled, bytes-count, bytes-short, bytes-other, spelled-length, bytes-spelled}
 
@@ -63,11 +66,30 @@ and-off : (b : Bool) → b && false ≡ false
 and-off true = refl
 and-off false = refl
 
--- ---- a length
-
 low-or-none : (low : ℕ) → low ≡ cond (leb 1 low) low 0
 low-or-none zero = refl
 low-or-none (suc low) = rw (le-leb 1 (suc low) (omega arith))
+
+-- ---- a run
+
+module _ (w : ℕ) where
+  pub no-run : (kindOfWord w ≡ runKind → ⊥) → 0 ≡ runOf (Is w)
+  unfolding runOf isRunWord
+  no-run k = rw (ne-eqb (kindOfWord w) runKind k)
+
+  pub is-run : kindOfWord w ≡ runKind → lowOfWord w ≡ runOf (Is w)
+  unfolding runOf isRunWord
+  is-run k = rw (eq-eqb (kindOfWord w) runKind k) (low-or-none (lowOfWord w))
+
+  pub no-run-word : runOf (Is w) ≡ 0 → isRunWord w ≡ false
+  unfolding runOf isRunWord
+  no-run-word e = go (isRunWord w) refl e
+    where
+      go : (b : Bool) → isRunWord w ≡ b → cond b (lowOfWord w) 0 ≡ 0 → b ≡ false
+      go true q z = let least = leb-true 1 (lowOfWord w) (and-right (eqb (kindOfWord w) runKind) _ q) in absurd (omega arith)
+      go false q z = refl
+
+-- ---- a length
 
 module _ (w : ℕ) where
   pub no-length : (kindOfWord w ≡ lengthKind → ⊥) → 0 ≡ lengthOf (Is w)
@@ -181,23 +203,23 @@ module _ (ws : List ℕ) (at n : ℕ) where
       bytes = H .bytes ∙ rw (path-by, sym (H .answer) ∙ t, t);
     }
 
--- a path whose length is what the second word says
-module _ (ws : List ℕ) (at n : ℕ) (second : Word) (e : n ≡ lengthOf second) where
-  pub path-without-length : {space : List ℕ} → n ≡ 0 → ReadsPath at (pathBehind second (drop at ws)) space path-answer.Malformed space
-  path-without-length z = reads-no-path (unsized second (drop at ws) (sym e ∙ z)) refl
+-- a path whose length is what the word behind the head says
+module _ (ws : List ℕ) (at n : ℕ) (next : Word) (e : n ≡ lengthOf next) where
+  pub path-without-length : {space : List ℕ} → n ≡ 0 → ReadsPath at (pathBehind next (drop at ws)) space path-answer.Malformed space
+  path-without-length z = reads-no-path (unsized next (drop at ws) (sym e ∙ z)) refl
 
   module _ (some-byte : n ≡ 0 → ⊥) where
-    size : Sized second (drop at ws)
-    size = sized second (drop at ws) (λ z. some-byte (e ∙ z))
+    size : Sized next (drop at ws)
+    size = sized next (drop at ws) (λ z. some-byte (e ∙ z))
 
     pub path-short : n ≤ maxPath
     path-short = let S = size in omega arith
 
-    path-is : ifResolved (bytesFrom n (drop at ws)) ≡ pathBehind second (drop at ws)
+    path-is : ifResolved (bytesFrom n (drop at ws)) ≡ pathBehind next (drop at ws)
     path-is = sym (size .path ∙ ap (λ (k : ℕ). ifResolved (bytesFrom k (drop at ws))) (sym e))
 
     pub path-behind : {space after : List ℕ} {r : PathRead} → ReadsPath at (ifResolved (bytesFrom n (drop at ws))) space r after
-        → ReadsPath at (pathBehind second (drop at ws)) space r after
+        → ReadsPath at (pathBehind next (drop at ws)) space r after
     path-behind {space} {after} {r} R = subst (λ (o : Option (Read (List ℕ))). ReadsPath at o space r after) path-is R
 
 -- ---- an act that takes a path
@@ -231,65 +253,65 @@ act-same (suc (suc (suc zero))) q = refl
 act-same (suc (suc (suc (suc zero)))) q = refl
 act-same (suc (suc (suc (suc (suc k))))) q = refl
 
-no-change : (n : ℕ) → withNumber n none ≡ none
+no-change : (run n : ℕ) → withNumber run n none ≡ none
 unfolding withNumber
-no-change zero = refl
-no-change (suc n) = refl
+no-change run zero = refl
+no-change run (suc n) = refl
 
 pub reads-nothing : {from : ℕ} {o : Option (Read Change)} {space : List ℕ} → o ≡ none → ReadsRecord from o space answer.Malformed space
 unfolding recordAnswer recordInto
 reads-nothing e = record { answer = rw e; bytes = rw e }
 
--- the record of a path that was read, by what the second word says and by the path
-reads-path : {from : ℕ} (number k : ℕ) {space after : List ℕ} (o : Option (Read (List ℕ))) {r : PathRead} → ReadsPath (from + 1 + 1) o space r after → 0 < number
-    → ReadsRecord from (withNumber number (withPath (pathAct k) o)) space (pathRecord number k r) after
+-- the record of a path that was read, by what the word behind the head says and by the path
+reads-path : {from : ℕ} (run number k : ℕ) {space after : List ℕ} (o : Option (Read (List ℕ))) {r : PathRead} → ReadsPath (from + 2 + 1) o space r after → 0 < number
+    → ReadsRecord from (withNumber run number (withPath (pathAct k) o)) space (pathRecord run number k r) after
 unfolding withPath pathAnswer pathInto recordAnswer recordInto changeWords pathRecord pathPart
-reads-path number k none R h = record { answer = rw (no-change number, R .answer); bytes = rw (no-change number) (R .bytes) }
-reads-path {from} number k (some p) R h =
+reads-path run number k none R h = record { answer = rw (no-change run number, R .answer); bytes = rw (no-change run number) (R .bytes) }
+reads-path {from} run number k (some p) R h =
     let q = p .value in
     record {
       answer =
-          rw (R .answer, with-number number (pathAct k q) (p .rest) h, sym (act-same k q), act-path q k .0, act-path q k .1)
-          (ap (answer.Change number (actionOf (some (pathAct k q))) (length q)) (omega arith));
-      bytes = rw (with-number number (pathAct k q) (p .rest) h, act-path q k .0) (R .bytes);
+          rw (R .answer, with-number run number (pathAct k q) (p .rest) h, sym (act-same k q), act-path q k .0, act-path q k .1)
+          (ap (answer.Change run number (actionOf (some (pathAct k q))) (length q)) (omega arith));
+      bytes = rw (with-number run number (pathAct k q) (p .rest) h, act-path q k .0) (R .bytes);
     }
 
-pub reads-behind : {from : ℕ} (number k : ℕ) (ws l : List ℕ) {space after : List ℕ} {r : PathRead} → drop (from + 1) ws ≡ l
-    → ReadsPath (behindFirst l (from + 1)) (pathBehind (firstWord l) (drop (behindFirst l (from + 1)) ws)) space r after → 0 < number
-    → ReadsRecord from (withNumber number (withPath (pathAct k) (readPath l))) space (pathRecord number k r) after
+pub reads-behind : {from : ℕ} (run number k : ℕ) (ws l : List ℕ) {space after : List ℕ} {r : PathRead} → drop (from + 2) ws ≡ l
+    → ReadsPath (behindFirst l (from + 2)) (pathBehind (firstWord l) (drop (behindFirst l (from + 2)) ws)) space r after → 0 < number
+    → ReadsRecord from (withNumber run number (withPath (pathAct k) (readPath l))) space (pathRecord run number k r) after
 unfolding firstWord behindFirst pathBehind readPath withPath pathAnswer pathInto pathRecord recordAnswer recordInto
-reads-behind number k ws [] e R h = record { answer = rw (no-change number, R .answer); bytes = rw (no-change number) (R .bytes) }
-reads-behind {from} number k ws (w ∷ l) {space} {after} {r} e R h =
-    let behind : drop (from + 1 + 1) ws ≡ l = sym (drop-drop 1 (from + 1) ws) ∙ ap (drop 1) e in
-    reads-path number k (readPath (w ∷ l)) (subst (λ (x : List ℕ). ReadsPath (from + 1 + 1) (readPath (w ∷ x)) space r after) behind R) h
+reads-behind run number k ws [] e R h = record { answer = rw (no-change run number, R .answer); bytes = rw (no-change run number) (R .bytes) }
+reads-behind {from} run number k ws (w ∷ l) {space} {after} {r} e R h =
+    let behind : drop (from + 2 + 1) ws ≡ l = sym (drop-drop 1 (from + 2) ws) ∙ ap (drop 1) e in
+    reads-path run number k (readPath (w ∷ l)) (subst (λ (x : List ℕ). ReadsPath (from + 2 + 1) (readPath (w ∷ x)) space r after) behind R) h
 
 -- ---- an act that takes switches
 
-module _ (number w end : ℕ) where
-  pub switches-other : (kindOfWord w ≡ switchesKind → ⊥) → answer.Malformed ≡ switchesRecord number (Is w) end
+module _ (run number w end : ℕ) where
+  pub switches-other : (kindOfWord w ≡ switchesKind → ⊥) → answer.Malformed ≡ switchesRecord run number (Is w) end
   unfolding switchesRecord isSwitches
   switches-other k = rw (ne-eqb (kindOfWord w) switchesKind k)
 
-  pub switches-unknown : maxSwitches < lowOfWord w → answer.Malformed ≡ switchesRecord number (Is w) end
+  pub switches-unknown : maxSwitches < lowOfWord w → answer.Malformed ≡ switchesRecord run number (Is w) end
   unfolding switchesRecord isSwitches
   switches-unknown l = rw (lt-leb (lowOfWord w) maxSwitches l, and-off (eqb (kindOfWord w) switchesKind))
 
   pub switches-known : kindOfWord w ≡ switchesKind → lowOfWord w ≤ maxSwitches
-      → answer.Change number (SetSwitches (lowOfWord w)) 0 end ≡ switchesRecord number (Is w) end
+      → answer.Change run number (SetSwitches (lowOfWord w)) 0 end ≡ switchesRecord run number (Is w) end
   unfolding switchesRecord isSwitches
   switches-known k l = rw (eq-eqb (kindOfWord w) switchesKind k, le-leb (lowOfWord w) maxSwitches l)
 
 -- they leave the lent space as it is
-pub reads-switches : {from : ℕ} (number : ℕ) (l space : List ℕ) {r : Record} → r ≡ switchesRecord number (firstWord l) (behindFirst l (from + 1)) → 0 < number
-    → ReadsRecord from (withNumber number (readSwitches l)) space r space
+pub reads-switches : {from : ℕ} (run number : ℕ) (l space : List ℕ) {r : Record} → r ≡ switchesRecord run number (firstWord l) (behindFirst l (from + 2)) → 0 < number
+    → ReadsRecord from (withNumber run number (readSwitches l)) space r space
 unfolding switchesRecord firstWord behindFirst readSwitches recordAnswer recordInto actionOf actPath changeWords actPart begun
-reads-switches number [] space e h = record { answer = rw (no-change number, e); bytes = rw (no-change number) }
-reads-switches {from} number (w ∷ l) space {r} e h = go (isSwitches w) e
+reads-switches run number [] space e h = record { answer = rw (no-change run number, e); bytes = rw (no-change run number) }
+reads-switches {from} run number (w ∷ l) space {r} e h = go (isSwitches w) e
   where
-    go : (b : Bool) → r ≡ cond b (answer.Change number (SetSwitches (lowOfWord w)) 0 (from + 1 + 1)) answer.Malformed
-        → ReadsRecord from (withNumber number (cond b (some (record { value = setSwitches (lowOfWord w); rest = l })) none)) space r space
-    go true f = let o = with-number number (setSwitches (lowOfWord w)) l h in record { answer = f ∙ rw o (ap (answer.Change number (SetSwitches (lowOfWord w)) 0) (omega arith)); bytes = rw o }
-    go false f = record { answer = rw (f, no-change number); bytes = rw (no-change number) }
+    go : (b : Bool) → r ≡ cond b (answer.Change run number (SetSwitches (lowOfWord w)) 0 (from + 2 + 1)) answer.Malformed
+        → ReadsRecord from (withNumber run number (cond b (some (record { value = setSwitches (lowOfWord w); rest = l })) none)) space r space
+    go true f = let o = with-number run number (setSwitches (lowOfWord w)) l h in record { answer = f ∙ rw o (ap (answer.Change run number (SetSwitches (lowOfWord w)) 0) (omega arith)); bytes = rw o }
+    go false f = record { answer = rw (f, no-change run number); bytes = rw (no-change run number) }
 
 -- ---- a head
 
@@ -317,17 +339,17 @@ act-with-path (suc (suc (suc (suc (suc zero))))) ws l h n = absurd (n refl)
 act-with-path (suc (suc (suc (suc (suc (suc zero)))))) ws l h n = refl
 act-with-path (suc (suc (suc (suc (suc (suc (suc k))))))) ws l h n = absurd (omega arith)
 
--- words that begin with a head w
-module _ (w : ℕ) (ws : List ℕ) where
+-- words that begin with a head w, behind a run word
+module _ (run w : ℕ) (ws : List ℕ) where
   -- the head's eight top bits, by kind and act bits
-  head-by : (k : ℕ) → k < 16 → w / actUnit ≡ 16 + k → readFirst (w ∷ ws) ≡ withNumber (numberBits w) (readAct k ws)
-  unfolding readFirst
+  head-by : (k : ℕ) → k < 16 → w / actUnit ≡ 16 + k → readHead run (w ∷ ws) ≡ withNumber run (numberBits w) (readAct k ws)
+  unfolding readHead
   head-by k l e =
       let bits : actBits w ≡ k = omega arith in
       rw (eq-eqb (kindOfWord w) headKind (omega arith), bits)
 
-  head-unnumbered : numberBits w ≡ 0 → readFirst (w ∷ ws) ≡ none
-  unfolding readFirst withNumber
+  head-unnumbered : numberBits w ≡ 0 → readHead run (w ∷ ws) ≡ none
+  unfolding readHead withNumber
   head-unnumbered e = rw e (go (eqb (kindOfWord w) headKind))
     where
       go : (b : Bool) → _≡_ {A = Option (Read Change)} (cond b none none) none
@@ -335,55 +357,66 @@ module _ (w : ℕ) (ws : List ℕ) where
       go false = refl
 
   -- a word of another kind, or an act number that is none
-  head-unknown : (17 ≤ w / actUnit → 24 ≤ w / actUnit) → readFirst (w ∷ ws) ≡ none
-  unfolding readFirst
+  head-unknown : (17 ≤ w / actUnit → 24 ≤ w / actUnit) → readHead run (w ∷ ws) ≡ none
+  unfolding readHead
   head-unknown u = go (eqb (kindOfWord w) headKind) refl
     where
-      go : (b : Bool) → eqb (kindOfWord w) headKind ≡ b → cond b (withNumber (numberBits w) (readAct (actBits w) ws)) none ≡ none
+      go : (b : Bool) → eqb (kindOfWord w) headKind ≡ b → cond b (withNumber run (numberBits w) (readAct (actBits w) ws)) none ≡ none
       go true e =
           let k = eqb-true (kindOfWord w) headKind e in
-          rw (act-unknown (actBits w) ws (λ l. omega (arith, u (omega arith)))) (no-change (numberBits w))
+          rw (act-unknown (actBits w) ws (λ l. omega (arith, u (omega arith)))) (no-change run (numberBits w))
       go false e = refl
 
 -- ---- a record by its front
 
-pub no-head : (ws : List ℕ) (from : ℕ) {f : Front} {space : List ℕ} → f ≡ frontAt ws from → f .head ≡ End
-    → ReadsRecord from (readFirst (drop from ws)) space answer.Malformed space
-unfolding readFirst
-no-head ws from F e = reads-nothing (ap readFirst (no-word (drop from ws) (sym (ap (λ (g : Front). g .head) F) ∙ e)))
+run-missing : (ws : List ℕ) → runOf (firstWord ws) ≡ 0 → readFirst ws ≡ none
+unfolding firstWord readFirst
+run-missing [] e = refl
+run-missing (w ∷ ws) e = rw (no-run-word w e)
 
-module _ {ws : List ℕ} {from w : ℕ} {f : Front} (H : Headed ws from w f) where
-  headed-as : {o : Option (Read Change)} {space after : List ℕ} {r : Record} → readFirst (w ∷ drop (from + 1) ws) ≡ o → ReadsRecord from o space r after
+module _ (ws : List ℕ) (from : ℕ) {run : ℕ} {f : Front} {space : List ℕ} (F : f ≡ frontAt ws from) where
+  pub without-run : run ≡ runOf (f .run) → run ≡ 0 → ReadsRecord from (readFirst (drop from ws)) space answer.Malformed space
+  without-run r z = reads-nothing (run-missing (drop from ws) (ap (λ (g : Front). runOf (g .run)) (sym F) ∙ sym r ∙ z))
+
+  pub no-head : OfRun (f .run) run → f .head ≡ End → ReadsRecord from (readFirst (drop from ws)) space answer.Malformed space
+  unfolding readFirst readHead
+  no-head R e = reads-nothing (ap readFirst (run-alone ws from F R e) ∙ rw (R .right))
+
+module _ {ws : List ℕ} {from run w : ℕ} {f : Front} (H : Headed ws from run w f) where
+  headed-as : {o : Option (Read Change)} {space after : List ℕ} {r : Record} → readHead run (w ∷ drop (from + 2) ws) ≡ o → ReadsRecord from o space r after
       → ReadsRecord from (readFirst (drop from ws)) space r after
-  headed-as {space = space} {after = after} {r = r} e R = subst (λ (x : Option (Read Change)). ReadsRecord from x space r after) (sym (ap readFirst (H .words) ∙ e)) R
+  unfolding readFirst
+  headed-as {space = space} {after = after} {r = r} e R =
+      let first : readFirst (drop from ws) ≡ readHead run (w ∷ drop (from + 2) ws) = ap readFirst (H .words) ∙ rw (H .ofRun .right, H .ofRun .low) in
+      subst (λ (x : Option (Read Change)). ReadsRecord from x space r after) (sym (first ∙ e)) R
 
   pub headed-unnumbered : {space : List ℕ} → numberBits w ≡ 0 → ReadsRecord from (readFirst (drop from ws)) space answer.Malformed space
-  headed-unnumbered e = headed-as (head-unnumbered w (drop (from + 1) ws) e) (reads-nothing refl)
+  headed-unnumbered e = headed-as (head-unnumbered run w (drop (from + 2) ws) e) (reads-nothing refl)
 
   pub headed-unknown : {space : List ℕ} → (17 ≤ w / actUnit → 24 ≤ w / actUnit) → ReadsRecord from (readFirst (drop from ws)) space answer.Malformed space
-  headed-unknown u = headed-as (head-unknown w (drop (from + 1) ws) u) (reads-nothing refl)
+  headed-unknown u = headed-as (head-unknown run w (drop (from + 2) ws) u) (reads-nothing refl)
 
   module _ (some-number : numberBits w ≡ 0 → ⊥) where
     pub headed-path : (t : ℕ) {space after : List ℕ} {p : PathRead} {r : Record} → t ≡ w / actUnit → (17 ≤ t) × (t ≤ 22) × (t ≡ 21 → ⊥)
-        → ReadsPath (f .at) (pathBehind (f .second) (drop (f .at) ws)) space p after → r ≡ pathRecord (numberBits w) (t % 16) p
+        → ReadsPath (f .at) (pathBehind (f .next) (drop (f .at) ws)) space p after → r ≡ pathRecord run (numberBits w) (t % 16) p
         → ReadsRecord from (readFirst (drop from ws)) space r after
     headed-path t {space} {after} {p} e k R a =
         rw a
         (headed-as
-        (head-by w (drop (from + 1) ws) (t % 16) (omega arith) (omega arith)
-        ∙ ap (withNumber (numberBits w)) (act-with-path (t % 16) (drop (from + 1) ws) (omega arith) (omega arith) (λ five. k .2 (omega arith))))
-        (reads-behind (numberBits w) (t % 16) ws (drop (from + 1) ws) refl
-        (subst (λ (g : Word × ℕ). ReadsPath (g .1) (pathBehind (g .0) (drop (g .1) ws)) space p after) (λ i. (H .second i, H .behind i)) R) (omega arith)))
+        (head-by run w (drop (from + 2) ws) (t % 16) (omega arith) (omega arith)
+        ∙ ap (withNumber run (numberBits w)) (act-with-path (t % 16) (drop (from + 2) ws) (omega arith) (omega arith) (λ five. k .2 (omega arith))))
+        (reads-behind run (numberBits w) (t % 16) ws (drop (from + 2) ws) refl
+        (subst (λ (g : Word × ℕ). ReadsPath (g .1) (pathBehind (g .0) (drop (g .1) ws)) space p after) (λ i. (H .next i, H .behind i)) R) (omega arith)))
 
-    pub headed-switches : {space : List ℕ} {r : Record} → w / actUnit ≡ 21 → r ≡ switchesRecord (numberBits w) (f .second) (f .at)
+    pub headed-switches : {space : List ℕ} {r : Record} → w / actUnit ≡ 21 → r ≡ switchesRecord run (numberBits w) (f .next) (f .at)
         → ReadsRecord from (readFirst (drop from ws)) space r space
     unfolding readAct
     headed-switches {space} e a =
-        headed-as (head-by w (drop (from + 1) ws) 5 (omega arith) e)
-        (reads-switches (numberBits w) (drop (from + 1) ws) space (a ∙ (λ i. switchesRecord (numberBits w) (H .second i) (H .behind i))) (omega arith))
+        headed-as (head-by run w (drop (from + 2) ws) 5 (omega arith) e)
+        (reads-switches run (numberBits w) (drop (from + 2) ws) space (a ∙ (λ i. switchesRecord run (numberBits w) (H .next i) (H .behind i))) (omega arith))
 
     pub headed-revoke-all : {space : List ℕ} → w / actUnit ≡ 23
-        → ReadsRecord from (readFirst (drop from ws)) space (answer.Change (numberBits w) RevokeAll 0 (from + 1)) space
+        → ReadsRecord from (readFirst (drop from ws)) space (answer.Change run (numberBits w) RevokeAll 0 (from + 2)) space
     unfolding readAct recordAnswer recordInto actionOf actPath changeWords actPart begun
     headed-revoke-all e =
-        headed-as (head-by w (drop (from + 1) ws) 7 (omega arith) e ∙ with-number (numberBits w) revokeAll (drop (from + 1) ws) (omega arith)) (record { answer = refl; bytes = refl })
+        headed-as (head-by run w (drop (from + 2) ws) 7 (omega arith) e ∙ with-number run (numberBits w) revokeAll (drop (from + 2) ws) (omega arith)) (record { answer = refl; bytes = refl })

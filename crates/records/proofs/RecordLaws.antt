@@ -1,5 +1,5 @@
--- What is written reads back as itself, whatever words follow, and a record has at most 344 words.
-use Prim.Native.Nat.{ℕ, zero, suc, _/_, _≤_, _<_}
+-- What is written reads back as itself, whatever words follow, and a record has at most 345 words.
+use Prim.Native.Nat.{ℕ, zero, suc, _+_, _/_, _≤_, _<_}
 use mathlib.Core.Path.{_≡_, refl, sym, ap, _∙_}
 use mathlib.Core.List.{List, [], _∷_, _++_, append-nil}
 use mathlib.Core.Option.{some}
@@ -17,16 +17,19 @@ use Rattle.table.specs.declared.Kind.{Kind}
 use Rattle.table.specs.declared.Kind.the-variants.{G, D, P, I}
 use Rattle.table.specs.Tables.{maxSwitches, isEntry}
 use Rattle.table.specs.Acts.{Act, insert, setSwitches, revoke, revokeAll, isAct}
+use Rattle.table.specs.Carrying.{maxRun, isRun}
 use Rattle.table.specs.Calls.{recordSpace}
 use Rattle.records.specs.Records.{
   Change,
   headKind,
   lengthKind,
   switchesKind,
+  runKind,
   actUnit,
   wordOf,
   insertNumber,
   actNumber,
+  runWord,
   headWord,
   pathWord,
   pathWords,
@@ -44,6 +47,7 @@ use Rattle.records.specs.Records.{
   first,
   second,
   third,
+  isRunWord,
   isLength,
   isSwitches,
   isPathWord,
@@ -56,12 +60,27 @@ use Rattle.records.specs.Records.{
   insertOf,
   readAct,
   withNumber,
+  readHead,
   readFirst,
   endedBy,
   ended,
   readChange,
 }
 use Rattle.records.specs.Steps.{wordsFor}
+
+-- ---- a run word reads back
+
+module _ (run : ℕ) (ok : isRun run ≡ true) where
+  pub run-few : run ≤ maxRun
+  unfolding isRun
+  run-few = leb-true run maxRun (and-right (leb 1 run) _ ok)
+
+  pub run-low : lowOfWord (runWord run) ≡ run
+  run-low = omega (arith, run-few)
+
+  pub word-run : isRunWord (runWord run) ≡ true
+  unfolding isRunWord isRun
+  word-run = rw (run-low, eq-eqb (kindOfWord (runWord run)) runKind (omega (arith, run-few)), and-left (leb 1 run) _ ok)
 
 -- ---- path words read back
 
@@ -185,15 +204,15 @@ act-few (setSwitches v) = omega arith
 act-few (revoke q) = omega arith
 act-few revokeAll = omega arith
 
-pub with-number : (n : ℕ) (act : Act) (rest : List ℕ) → 1 ≤ n
-    → withNumber n (some (record { value = act; rest = rest })) ≡ some (record { value = record { number = n; act = act }; rest = rest })
+pub with-number : (run n : ℕ) (act : Act) (rest : List ℕ) → 1 ≤ n
+    → withNumber run n (some (record { value = act; rest = rest })) ≡ some (record { value = record { run = run; number = n; act = act }; rest = rest })
 unfolding withNumber
-with-number zero act rest h = absurd (omega arith)
-with-number (suc n) act rest h = refl
+with-number run zero act rest h = absurd (omega arith)
+with-number run (suc n) act rest h = refl
 
 -- whatever words follow
 pub read-first : (c : Change) (rest : List ℕ) → Readable c → readFirst (changeWords c ++ rest) ≡ some (record { value = c; rest = rest })
-unfolding readFirst changeWords
+unfolding readFirst readHead changeWords
 read-first c rest R =
     let n = c .number in
     let k = actNumber (c .act) in
@@ -203,11 +222,13 @@ read-first c rest R =
     let number : numberBits w ≡ n = omega (arith, R .few) in
     let head : kindOfWord w ≡ headKind = omega (arith, R .few) in
     rw (
+      word-run (c .run) (R .ofRun),
+      run-low (c .run) (R .ofRun),
       eq-eqb (kindOfWord w) headKind head,
       bits,
       number,
       act-back (c .act) rest (R .fits) (R .bytes),
-      with-number n (c .act) rest (R .above),
+      with-number (c .run) n (c .act) rest (R .above),
     )
 
 pub read-back : (c : Change) → Readable c → readChange (changeWords c) ≡ some c
@@ -223,11 +244,12 @@ path-count (a ∷ []) = refl
 path-count (a ∷ b ∷ []) = refl
 path-count (a ∷ b ∷ c ∷ p) = ap suc (path-count p) ∙ omega arith
 
-path-few : (p : List ℕ) → isPath p ≡ true → length (pathPart p) < recordSpace
+-- behind the run word and the head
+path-few : (p : List ℕ) → isPath p ≡ true → length (pathPart p) + 2 ≤ recordSpace
 unfolding pathPart
 path-few p ok = omega (arith, path-count p, path-short p ok)
 
-part-few : (act : Act) → isAct act ≡ true → length (actPart act) < recordSpace
+part-few : (act : Act) → isAct act ≡ true → length (actPart act) + 2 ≤ recordSpace
 unfolding actPart isAct isEntry
 part-few (insert e) ok = path-few (e .path) ok
 part-few (setSwitches v) ok = omega arith
@@ -238,9 +260,9 @@ pub few-words : (c : Change) → isAct (c .act) ≡ true → length (changeWords
 unfolding changeWords
 few-words c ok = omega (arith, part-few (c .act) ok)
 
--- ---- the scope's example: 11000001 20000002 302F6300 12000002 20000002 302F7A00
+-- ---- the scope's example: 80000001 11000001 20000002 302F6300 80000001 12000002 20000002 302F7A00
 
-example : allWords (numbered 0 (insertOf G (47 ∷ 99 ∷ []) ∷ insertOf D (47 ∷ 122 ∷ []) ∷ []))
-    ≡ 285212673 ∷ 536870914 ∷ 808411904 ∷ 301989890 ∷ 536870914 ∷ 808417792 ∷ []
+example : allWords (numbered 1 0 (insertOf G (47 ∷ 99 ∷ []) ∷ insertOf D (47 ∷ 122 ∷ []) ∷ []))
+    ≡ 2147483649 ∷ 285212673 ∷ 536870914 ∷ 808411904 ∷ 2147483649 ∷ 301989890 ∷ 536870914 ∷ 808417792 ∷ []
 unfolding allWords numbered changeWords actNumber actPart pathPart pathWords
 example = refl

@@ -2,14 +2,18 @@
 use Prim.Native.Nat.{ℕ, _+_, _-_, _≤_, _<_}
 use mathlib.Core.Path.{_≡_, refl, sym, ap, _∙_}
 use mathlib.Core.List.{List, [], _∷_}
+use mathlib.Core.Bool.{Bool, true, false, cond}
 use native.Mathlib.Omega.{arith}
 use native.Mathlib.Numerals.{add-one}
 use lib.ListN.{length, getD, drop, drop-of-length-le, length-drop}
 use lib.Seq.{drop-cons, drop-drop}
+use Rattle.records.specs.declared.words.Word.{Word}
 use Rattle.records.specs.declared.words.Word.the-variants.{Is, End}
 use Rattle.records.specs.declared.words.WordRead.{WordRead}
 use Rattle.records.specs.declared.words.Front.{Front}
+use Rattle.records.specs.Records.{lowOfWord, isRunWord}
 use Rattle.records.specs.Words.{firstWord, behindFirst, readAt, frontAt}
+use Rattle.records.specs.Steps.{runOf}
 
 -- the words from a place on: the one there, and those behind it
 pub from-place : (ws : List ℕ) (at : ℕ) → at < length ws → drop at ws ≡ getD ws at 0 ∷ drop (at + 1) ws
@@ -52,22 +56,52 @@ stands ws at {w} e b =
       next = b ∙ ap (λ (l : List ℕ). behindFirst l at) is;
     }
 
--- a front with a head w: the words from `from` on begin with it, and the rest of the front is what stands behind it
-pub record Headed (ws : List ℕ) (from w : ℕ) (f : Front) : Type 0 where
-  pub here : from < length ws
-  pub words : drop from ws ≡ w ∷ drop (from + 1) ws
-  pub second : f .second ≡ firstWord (drop (from + 1) ws)
-  pub behind : f .at ≡ behindFirst (drop (from + 1) ws) (from + 1)
+-- a word that says a run
+pub record OfRun (word : Word) (run : ℕ) : Type 0 where
+  pub value : ℕ
+  pub is : word ≡ Is value
+  pub right : isRunWord value ≡ true
+  pub low : run ≡ lowOfWord value
+
+pub of-run : (word : Word) {run : ℕ} → run ≡ runOf word → (run ≡ 0 → ⊥) → OfRun word run
+unfolding runOf
+of-run End e h = absurd (h e)
+of-run (Is w) {run} e h = go (isRunWord w) refl e
+  where
+    go : (b : Bool) → isRunWord w ≡ b → run ≡ cond b (lowOfWord w) 0 → OfRun (Is w) run
+    go true q f = record { value = w; is = refl; right = q; low = f }
+    go false q f = absurd (h f)
+
+-- a front with a run and a head w: the words from `from` on begin with the run word and with w, and the rest of the front is what stands behind them
+pub record Headed (ws : List ℕ) (from run w : ℕ) (f : Front) : Type 0 where
+  pub ofRun : OfRun (f .run) run
+  pub here : from + 1 < length ws
+  pub words : drop from ws ≡ ofRun .value ∷ w ∷ drop (from + 2) ws
+  pub next : f .next ≡ firstWord (drop (from + 2) ws)
+  pub behind : f .at ≡ behindFirst (drop (from + 2) ws) (from + 2)
   pub left : f .left ≡ length ws - f .at
 
-pub headed : (ws : List ℕ) (from : ℕ) {w : ℕ} {f : Front} → f ≡ frontAt ws from → f .head ≡ Is w → Headed ws from w f
-headed ws from F e =
-    let S = stands ws from (sym (ap (λ (g : Front). g .head) F) ∙ e) refl in
-    let step = S .next in
-    record {
-      here = S .here;
-      words = S .words;
-      second = ap (λ (g : Front). g .second) F ∙ ap (λ (k : ℕ). firstWord (drop k ws)) step;
-      behind = ap (λ (g : Front). g .at) F ∙ ap (λ (k : ℕ). behindFirst (drop k ws) k) step;
-      left = ap (λ (g : Front). g .left) F ∙ ap (λ (g : Front). length ws - g .at) (sym F);
-    }
+-- a front whose first word says a run
+module _ (ws : List ℕ) (from : ℕ) {run : ℕ} {f : Front} (F : f ≡ frontAt ws from) (R : OfRun (f .run) run) where
+  run-stands : Stands ws from (R .value) (readAt ws from .at)
+  run-stands = stands ws from (sym (ap (λ (g : Front). g .run) F) ∙ R .is) refl
+
+  head-is : f .head ≡ firstWord (drop (from + 1) ws)
+  head-is = ap (λ (g : Front). g .head) F ∙ ap (λ (k : ℕ). firstWord (drop k ws)) (run-stands .next)
+
+  pub run-alone : f .head ≡ End → drop from ws ≡ R .value ∷ []
+  run-alone e = run-stands .words ∙ ap (λ (l : List ℕ). R .value ∷ l) (no-word (drop (from + 1) ws) (sym head-is ∙ e))
+
+  pub headed : {w : ℕ} → f .head ≡ Is w → Headed ws from run w f
+  headed {w} e =
+      let S = stands ws (from + 1) (sym head-is ∙ e) refl in
+      let two : from + 1 + 1 ≡ from + 2 = omega arith in
+      let step = ap (λ (k : ℕ). readAt ws k .at) (run-stands .next) ∙ S .next ∙ two in
+      record {
+        ofRun = R;
+        here = S .here;
+        words = run-stands .words ∙ ap (λ (l : List ℕ). R .value ∷ l) (S .words ∙ ap (λ (k : ℕ). w ∷ drop k ws) two);
+        next = ap (λ (g : Front). g .next) F ∙ ap (λ (k : ℕ). firstWord (drop k ws)) step;
+        behind = ap (λ (g : Front). g .at) F ∙ ap (λ (k : ℕ). behindFirst (drop k ws) k) step;
+        left = ap (λ (g : Front). g .left) F ∙ ap (λ (g : Front). length ws - g .at) (sym F);
+      }

@@ -1,4 +1,4 @@
--- Laws of writing a record: stores that are one run of words, and the words of each action.
+-- Laws of writing a record: stores that are one sequence of words, and the words of each action.
 use Prim.Native.Nat.{ℕ, _+_, _≤_}
 use mathlib.Core.Path.{_≡_}
 use mathlib.Core.List.{List, [], _∷_}
@@ -14,42 +14,46 @@ use Rattle.table.specs.Tables.{isEntry}
 use Rattle.table.specs.Acts.{isAct}
 use Rattle.table.specs.Carrying.{actOf, fits}
 use Rattle.table.proofs.Overwrites.{over-sets, over-above}
-use Rattle.records.specs.Records.{switchesKind, wordOf, insertNumber, actNumber, headWord, pathPart, actPart, changeWords}
+use Rattle.records.specs.Records.{switchesKind, wordOf, insertNumber, actNumber, runWord, headWord, pathPart, actPart, changeWords}
 use Rattle.records.specs.Answers.{recordWords}
 use Rattle.records.proofs.RecordLaws.{path-short}
 
--- two words stored one by one, and the same with more words behind them
+-- words stored one by one, and the same with more words behind them
 pub two-stores : (m : List ℕ) (at a b : ℕ) → at + 2 ≤ length m → set (set m at a) (at + 1) b ≡ overwrite m at (a ∷ b ∷ [])
 two-stores m at a b h = simp towards-suc (over-sets (a ∷ b ∷ []) m at h)
 
-pub two-before : (m : List ℕ) (at a b : ℕ) (s : List ℕ) → at + 2 ≤ length m
-    → overwrite (set (set m at a) (at + 1) b) (at + 2) s ≡ overwrite m at (a ∷ b ∷ s)
-two-before m at a b s h = rw (two-stores m at a b h) (over-above m at (a ∷ b ∷ []) s h)
+pub three-stores : (m : List ℕ) (at a b c : ℕ) → at + 3 ≤ length m → set (set (set m at a) (at + 1) b) (at + 2) c ≡ overwrite m at (a ∷ b ∷ c ∷ [])
+three-stores m at a b c h = simp towards-suc (over-sets (a ∷ b ∷ c ∷ []) m at h)
+
+pub three-before : (m : List ℕ) (at a b c : ℕ) (s : List ℕ) → at + 3 ≤ length m
+    → overwrite (set (set (set m at a) (at + 1) b) (at + 2) c) (at + 3) s ≡ overwrite m at (a ∷ b ∷ c ∷ s)
+three-before m at a b c s h = rw (three-stores m at a b c h) (over-above m at (a ∷ b ∷ c ∷ []) s h)
 
 -- ---- the words of each action
 
-module _ {action : Action} (number : ℕ) (q : List ℕ) where
-  pub no-words : action ≡ Nothing → [] ≡ recordWords number (actOf action q)
+module _ {action : Action} (run number : ℕ) (q : List ℕ) where
+  pub no-words : action ≡ Nothing → [] ≡ recordWords run number (actOf action q)
   unfolding actOf recordWords
   no-words e = rw e
 
-  pub insert-words : {k : Kind} {head : ℕ} → action ≡ Insert k → head ≡ headWord (insertNumber k) number
-      → head ∷ pathPart q ≡ recordWords number (actOf action q)
-  unfolding actOf recordWords changeWords actNumber actPart
-  insert-words e h = rw (e, h)
+  module _ {before head : ℕ} (b : before ≡ runWord run) where
+    pub insert-words : {k : Kind} → action ≡ Insert k → head ≡ headWord (insertNumber k) number
+        → before ∷ head ∷ pathPart q ≡ recordWords run number (actOf action q)
+    unfolding actOf recordWords changeWords actNumber actPart
+    insert-words e h = rw (e, b, h)
 
-  pub switches-words : {v head : ℕ} → action ≡ SetSwitches v → head ≡ headWord 5 number
-      → head ∷ wordOf switchesKind v ∷ [] ≡ recordWords number (actOf action q)
-  unfolding actOf recordWords changeWords actNumber actPart
-  switches-words e h = rw (e, h)
+    pub switches-words : {v : ℕ} → action ≡ SetSwitches v → head ≡ headWord 5 number
+        → before ∷ head ∷ wordOf switchesKind v ∷ [] ≡ recordWords run number (actOf action q)
+    unfolding actOf recordWords changeWords actNumber actPart
+    switches-words e h = rw (e, b, h)
 
-  pub revoke-words : {head : ℕ} → action ≡ Revoke → head ≡ headWord 6 number → head ∷ pathPart q ≡ recordWords number (actOf action q)
-  unfolding actOf recordWords changeWords actNumber actPart
-  revoke-words e h = rw (e, h)
+    pub revoke-words : action ≡ Revoke → head ≡ headWord 6 number → before ∷ head ∷ pathPart q ≡ recordWords run number (actOf action q)
+    unfolding actOf recordWords changeWords actNumber actPart
+    revoke-words e h = rw (e, b, h)
 
-  pub revoke-all-words : {head : ℕ} → action ≡ RevokeAll → head ≡ headWord 7 number → head ∷ [] ≡ recordWords number (actOf action q)
-  unfolding actOf recordWords changeWords actNumber actPart
-  revoke-all-words e h = rw (e, h)
+    pub revoke-all-words : action ≡ RevokeAll → head ≡ headWord 7 number → before ∷ head ∷ [] ≡ recordWords run number (actOf action q)
+    unfolding actOf recordWords changeWords actNumber actPart
+    revoke-all-words e h = rw (e, b, h)
 
 -- ---- the path of an act that fits is within its limit
 

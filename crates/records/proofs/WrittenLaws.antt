@@ -8,7 +8,7 @@ use native.Mathlib.Omega.{arith}
 use lib.ListN.{length, drop, length-append}
 use lib.Seq.{drop-append-seam, drop-drop}
 use lib.Dec.{leb, eqb}
-use borrow.Author.Tests.{eqb-true}
+use borrow.Author.Tests.{eqb-true, le-leb}
 use Rattle.paths.specs.Components.{Bytes}
 use Rattle.paths.specs.Resolving.{maxPath, isResolved}
 use Rattle.paths.specs.Giving.{isPath}
@@ -18,13 +18,16 @@ use Rattle.table.specs.declared.Kind.{Kind}
 use Rattle.table.specs.declared.Kind.the-variants.{G, D, P, I}
 use Rattle.table.specs.Tables.{isEntry}
 use Rattle.table.specs.Acts.{Act, setSwitches, revoke, revokeAll, isAct}
+use Rattle.table.specs.Carrying.{maxRun, isRun}
 use Rattle.records.specs.Records.{
   Change,
   headKind,
+  runKind,
   actUnit,
   wordOf,
   insertNumber,
   actNumber,
+  runWord,
   headWord,
   pathWord,
   pathWords,
@@ -40,6 +43,7 @@ use Rattle.records.specs.Records.{
   first,
   second,
   third,
+  isRunWord,
   isLength,
   isSwitches,
   isPathWord,
@@ -53,6 +57,7 @@ use Rattle.records.specs.Records.{
   insertOf,
   readAct,
   withNumber,
+  readHead,
   readFirst,
   endedBy,
   ended,
@@ -79,6 +84,17 @@ head-word w e = omega arith
 
 kind-word : (w kind : ℕ) → eqb (kindOfWord w) kind ≡ true → w ≡ wordOf kind (lowOfWord w)
 kind-word w kind e = omega (arith, eqb-true (kindOfWord w) kind e)
+
+-- ---- a run word
+
+module _ (w : ℕ) (e : isRunWord w ≡ true) where
+  pub run-word : w ≡ runWord (lowOfWord w)
+  unfolding isRunWord
+  run-word = kind-word w runKind (and-left (eqb (kindOfWord w) runKind) _ e)
+
+  pub run-right : isRun (lowOfWord w) ≡ true
+  unfolding isRunWord isRun
+  run-right = rw (and-right (eqb (kindOfWord w) runKind) _ e, le-leb (lowOfWord w) maxRun (omega arith))
 
 -- ---- path words
 
@@ -259,39 +275,46 @@ act-read (suc (suc (suc (suc (suc (suc (suc (suc n)))))))) ws r e = absurd (neve
 
 -- ---- a record
 
-record NumberRead (n : ℕ) (o : Option (Read Act)) (r : Read Change) : Type 0 where
+record NumberRead (run n : ℕ) (o : Option (Read Act)) (r : Read Change) : Type 0 where
   some-number : 1 ≤ n
   a : Read Act
   behind : o ≡ some a
-  whole : record { value = record { number = n; act = a .value }; rest = a .rest } ≡ r
+  whole : record { value = record { run = run; number = n; act = a .value }; rest = a .rest } ≡ r
 
-number-read : (n : ℕ) (o : Option (Read Act)) (r : Read Change) → withNumber n o ≡ some r → NumberRead n o r
+number-read : (run n : ℕ) (o : Option (Read Act)) (r : Read Change) → withNumber run n o ≡ some r → NumberRead run n o r
 unfolding withNumber
-number-read zero o r e = absurd (never e)
-number-read (suc n) none r e = absurd (never e)
-number-read (suc n) (some a) r e = record { some-number = omega arith; a = a; behind = refl; whole = cc }
+number-read run zero o r e = absurd (never e)
+number-read run (suc n) none r e = absurd (never e)
+number-read run (suc n) (some a) r e = record { some-number = omega arith; a = a; behind = refl; whole = cc }
 
 -- words that begin with a record are the writing of what was read, and what follows
 pub record Written (ws : List ℕ) (r : Read Change) : Type 0 where
   pub words : ws ≡ changeWords (r .value) ++ r .rest
   pub readable : Readable (r .value)
 
-pub written-first : (ws : List ℕ) (r : Read Change) → readFirst ws ≡ some r → Written ws r
-unfolding readFirst changeWords
-written-first [] r e = absurd (never e)
-written-first (w ∷ ws) r e =
+-- a run word v, and a head with what its act takes
+written-head : (v : ℕ) (ws : List ℕ) (r : Read Change) → isRunWord v ≡ true → readHead (lowOfWord v) ws ≡ some r → Written (v ∷ ws) r
+unfolding readHead changeWords
+written-head v [] r R e = absurd (never e)
+written-head v (w ∷ ws) r R e =
     let C = if-some (eqb (kindOfWord w) 1) e in
-    let N = number-read (numberBits w) (readAct (actBits w) ws) r (C .1) in
+    let N = number-read (lowOfWord v) (numberBits w) (readAct (actBits w) ws) r (C .1) in
     let A = act-read (actBits w) ws (N .a) (N .behind) in
     record {
       words =
-          ap (λ (k : ℕ). k ∷ ws) (head-word w (eqb-true (kindOfWord w) 1 (C .0)) ∙ ap (λ (k : ℕ). headWord k (numberBits w)) (A .number))
-          ∙ ap (λ (l : List ℕ). headWord (actNumber (N .a .value)) (numberBits w) ∷ l) (A .words)
-          ∙ ap (λ (x : Read Change). headWord (actNumber (x .value .act)) (x .value .number) ∷ (actPart (x .value .act) ++ x .rest)) (N .whole);
+          ap (λ (k : ℕ). k ∷ w ∷ ws) (run-word v R)
+          ∙ ap (λ (k : ℕ). runWord (lowOfWord v) ∷ k ∷ ws) (head-word w (eqb-true (kindOfWord w) 1 (C .0)) ∙ ap (λ (k : ℕ). headWord k (numberBits w)) (A .number))
+          ∙ ap (λ (l : List ℕ). runWord (lowOfWord v) ∷ headWord (actNumber (N .a .value)) (numberBits w) ∷ l) (A .words)
+          ∙ ap (λ (x : Read Change). changeWords (x .value) ++ x .rest) (N .whole);
       readable =
           subst (λ (x : Read Change). Readable (x .value)) (N .whole)
-          (record { above = N .some-number; few = omega arith; fits = A .fits; bytes = A .bytes });
+          (record { ofRun = run-right v R; above = N .some-number; few = omega arith; fits = A .fits; bytes = A .bytes });
     }
+
+pub written-first : (ws : List ℕ) (r : Read Change) → readFirst ws ≡ some r → Written ws r
+unfolding readFirst
+written-first [] r e = absurd (never e)
+written-first (w ∷ ws) r e = let C = if-some (isRunWord w) e in written-head w ws r (C .0) (C .1)
 
 ended-by : (c : Change) (rest : List ℕ) (d : Change) → endedBy c rest ≡ some d → (c ≡ d) × (rest ≡ [])
 unfolding endedBy

@@ -13,18 +13,18 @@ use Rattle.records.specs.Records.{Change, Read, actPath, changeWords}
 
 -- ---- writing
 
--- the record of an act under a number; with no act there is none
-unfoldable pub recordWords : ℕ → Option Act → List ℕ
-recordWords number none = []
-recordWords number (some act) = changeWords (record { number = number; act = act })
+-- the record of an act of a run under a number; with no act there is none
+unfoldable pub recordWords : ℕ → ℕ → Option Act → List ℕ
+recordWords run number none = []
+recordWords run number (some act) = changeWords (record { run = run; number = number; act = act })
 
 -- ---- reading
 
--- a record that was read from `from` on: its number, its act, its path's length, and where the words behind it begin
+-- a record that was read from `from` on: its run, its number, its act, its path's length, and where the words behind it begin
 unfoldable pub recordAnswer : ℕ → Option (Read Change) → Record
 recordAnswer from none = answer.Malformed
 recordAnswer from (some r) =
-    answer.Change (r .value .number) (actionOf (some (r .value .act))) (length (actPath (r .value .act))) (from + length (changeWords (r .value)))
+    answer.Change (r .value .run) (r .value .number) (actionOf (some (r .value .act))) (length (actPath (r .value .act))) (from + length (changeWords (r .value)))
 
 -- its path stands from the space's start, and no more of the space is written; malformed words leave it as it was
 unfoldable pub recordInto : Option (Read Change) → List ℕ → List ℕ

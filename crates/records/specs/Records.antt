@@ -1,4 +1,4 @@
--- Records: an act on the main's table with its number, as 32-bit words, and back. Scope, "Handover, at the top".
+-- Records: an act on the main's table with its run and its number, as 32-bit words, and back. Scope, "Handover, at the top", and "A main that starts over".
 use Prim.Native.Nat.{ℕ, zero, suc, _+_, _*_, _/_, _%_, _≤_}
 use mathlib.Core.Path.{_≡_}
 use mathlib.Core.List.{List, [], _∷_, _++_}
@@ -12,10 +12,11 @@ use Rattle.table.specs.declared.Kind.{Kind}
 use Rattle.table.specs.declared.Kind.the-variants.{G, D, P, I}
 use Rattle.table.specs.Tables.{maxSwitches}
 use Rattle.table.specs.Acts.{Act, insert, setSwitches, revoke, revokeAll, isAct}
-use Rattle.table.specs.Carrying.{maxNumber}
+use Rattle.table.specs.Carrying.{isRun, maxNumber}
 
--- a change: an act of the main with its number
+-- a change: an act of the main with its run, and its number in that run
 pub record Change : Type 0 where
+  pub run : ℕ
   pub number : ℕ
   pub act : Act
 
@@ -32,6 +33,9 @@ pathKind = 3
 
 abbrev pub switchesKind : ℕ
 switchesKind = 4
+
+abbrev pub runKind : ℕ
+runKind = 8
 
 -- below the four kind bits there are 28, and below a head's four act bits 24
 abbrev pub kindUnit : ℕ
@@ -59,6 +63,10 @@ actNumber revokeAll = 7
 
 -- ---- writing
 
+-- a record, and an image, begins with the number of its run
+abbrev pub runWord : ℕ → ℕ
+runWord run = wordOf runKind run
+
 abbrev pub headWord : ℕ → ℕ → ℕ
 headWord act number = wordOf headKind (act * actUnit + number)
 
@@ -85,12 +93,12 @@ actPart (revoke q) = pathPart q
 actPart revokeAll = []
 
 unfoldable pub changeWords : Change → List ℕ
-changeWords c = headWord (actNumber (c .act)) (c .number) ∷ actPart (c .act)
+changeWords c = runWord (c .run) ∷ headWord (actNumber (c .act)) (c .number) ∷ actPart (c .act)
 
--- the changes that acts make after number n
-unfoldable pub numbered : ℕ → List Act → List Change
-numbered n [] = []
-numbered n (a ∷ acts) = record { number = n + 1; act = a } ∷ numbered (n + 1) acts
+-- the changes that acts of a run make after number n
+unfoldable pub numbered : ℕ → ℕ → List Act → List Change
+numbered run n [] = []
+numbered run n (a ∷ acts) = record { run = run; number = n + 1; act = a } ∷ numbered run (n + 1) acts
 
 -- their words, one record behind the other
 unfoldable pub allWords : List Change → List ℕ
@@ -108,6 +116,7 @@ actPath revokeAll = []
 
 -- a change whose words read back as itself: `read-first`
 pub record Readable (c : Change) : Type 0 where
+  pub ofRun : isRun (c .run) ≡ true
   pub above : 1 ≤ c .number
   pub few : c .number ≤ maxNumber
   pub fits : isAct (c .act) ≡ true
@@ -137,6 +146,10 @@ second w = w / 256 % 256
 
 abbrev pub third : ℕ → ℕ
 third w = w % 256
+
+-- a run number of 1 or more, in all 28 bits
+unfoldable pub isRunWord : ℕ → Bool
+isRunWord w = eqb (kindOfWord w) runKind && leb 1 (lowOfWord w)
 
 -- a length of 1 to 1,024, and no other bit
 unfoldable pub isLength : ℕ → Bool
@@ -204,15 +217,20 @@ readAct (suc (suc (suc (suc (suc (suc (suc zero))))))) ws = some (record { value
 readAct (suc (suc (suc (suc (suc (suc (suc (suc n)))))))) ws = none
 
 -- no record has number 0
-unfoldable pub withNumber : ℕ → Option (Read Act) → Option (Read Change)
-withNumber zero r = none
-withNumber (suc n) none = none
-withNumber (suc n) (some r) = some (record { value = record { number = suc n; act = r .value }; rest = r .rest })
+unfoldable pub withNumber : ℕ → ℕ → Option (Read Act) → Option (Read Change)
+withNumber run zero r = none
+withNumber run (suc n) none = none
+withNumber run (suc n) (some r) = some (record { value = record { run = run; number = suc n; act = r .value }; rest = r .rest })
 
--- the record that words begin with; it ends where its own act and length say
+-- what follows the run word: a head, and what its act takes
+unfoldable pub readHead : ℕ → List ℕ → Option (Read Change)
+readHead run [] = none
+readHead run (w ∷ ws) = cond (eqb (kindOfWord w) headKind) (withNumber run (numberBits w) (readAct (actBits w) ws)) none
+
+-- the record that words begin with; it ends where its own act and length say. Without its run word it is malformed
 unfoldable pub readFirst : List ℕ → Option (Read Change)
 readFirst [] = none
-readFirst (w ∷ ws) = cond (eqb (kindOfWord w) headKind) (withNumber (numberBits w) (readAct (actBits w) ws)) none
+readFirst (w ∷ ws) = cond (isRunWord w) (readHead (lowOfWord w) ws) none
 
 unfoldable pub endedBy : Change → List ℕ → Option Change
 endedBy c [] = some c

@@ -18,7 +18,7 @@ use Rattle.records.specs.declared.Record.{Record}
 use Rattle.records.specs.declared.Record.the-variants as answer
 use Rattle.records.specs.declared.words.Word.{Word}
 use Rattle.records.specs.declared.words.Word.the-variants.{Is, End}
-use Rattle.records.specs.Records.{Read, pathWords, isLength, isSwitches, lowOfWord, insertOf, first, second, third, readPath}
+use Rattle.records.specs.Records.{Read, pathWords, isRunWord, isLength, isSwitches, lowOfWord, insertOf, first, second, third, readPath}
 
 -- ---- a path's words by their places
 
@@ -66,7 +66,14 @@ pub record ReadsPath (at : ℕ) (path : Option (Read (List ℕ))) (space : List 
   pub answer : r ≡ pathAnswer at path
   pub bytes : after ≡ pathInto path space
 
--- ---- a record by its second word
+-- ---- the run
+
+-- the run that a word says; 0 is none
+unfoldable pub runOf : Word → ℕ
+runOf End = 0
+runOf (Is w) = cond (isRunWord w) (lowOfWord w) 0
+
+-- ---- a record by the word behind its head
 
 -- the act of a head that takes a path: 1 to 4 insert, and the other one, 6, revokes
 unfoldable pub pathAct : ℕ → List ℕ → Act
@@ -78,11 +85,11 @@ pathAct (suc (suc (suc (suc zero)))) = insertOf P
 pathAct (suc (suc (suc (suc (suc n))))) = revoke
 
 -- the record of a head that takes a path, by what reading the path answered
-unfoldable pub pathRecord : ℕ → ℕ → PathRead → Record
-pathRecord number act path-answer.Malformed = answer.Malformed
-pathRecord number act (path-answer.Path n end) = answer.Change number (actionOf (some (pathAct act []))) n end
+unfoldable pub pathRecord : ℕ → ℕ → ℕ → PathRead → Record
+pathRecord run number act path-answer.Malformed = answer.Malformed
+pathRecord run number act (path-answer.Path n end) = answer.Change run number (actionOf (some (pathAct act []))) n end
 
--- the record of a head that takes switches, by its second word, and by where the words behind that begin
-unfoldable pub switchesRecord : ℕ → Word → ℕ → Record
-switchesRecord number End end = answer.Malformed
-switchesRecord number (Is w) end = cond (isSwitches w) (answer.Change number (SetSwitches (lowOfWord w)) 0 end) answer.Malformed
+-- the record of a head that takes switches, by the word behind it, and by where the words behind that begin
+unfoldable pub switchesRecord : ℕ → ℕ → Word → ℕ → Record
+switchesRecord run number End end = answer.Malformed
+switchesRecord run number (Is w) end = cond (isSwitches w) (answer.Change run number (SetSwitches (lowOfWord w)) 0 end) answer.Malformed

@@ -27,9 +27,10 @@ readAt ws at = record { word = firstWord (drop at ws); at = behindFirst (drop at
 abbrev pub past : Reader → Reader
 past r = record { words = r .words; at = readAt (now (r .words)) (r .at) .at }
 
--- two words from `from` on, the place behind them, and how many words are left there
+-- three words from `from` on, the place behind them, and how many words are left there
 abbrev pub frontAt : List ℕ → ℕ → Front
 frontAt ws from =
-    let head = readAt ws from in
-    let second = readAt ws (head .at) in
-    record { head = head .word; second = second .word; at = second .at; left = length ws - second .at }
+    let run = readAt ws from in
+    let head = readAt ws (run .at) in
+    let next = readAt ws (head .at) in
+    record { run = run .word; head = head .word; next = next .word; at = next .at; left = length ws - next .at }

@@ -14,22 +14,24 @@ const PATH: u32 = 3;
 
 const SWITCHES: u32 = 4;
 
+pub const RUN: u32 = 8;
+
 pub const KIND_UNIT: u32 = 0x1000_0000;
 
 // In a head four act bits stand next, and the change number below them.
 pub const ACT_UNIT: u32 = 0x100_0000;
 
-// The words that the longest record takes: a path of 1,024 bytes, its length and the head.
-pub const RECORD_WORDS: usize = 344;
+// The words that the longest record takes: a path of 1,024 bytes, its length, the head and the run word.
+pub const RECORD_WORDS: usize = 345;
 
 // Room for the bytes of as many words as the longest path takes.
 const PATH_ROOM: usize = 1026;
 
-// What reading a record answers: its number, its act, how many bytes its path has in the lent space, and where the words behind it
+// What reading a record answers: its run, its number, its act, how many bytes its path has in the lent space, and where the words behind it
 // begin; or that the words are malformed.
 pub enum Record {
     Malformed,
-    Change(u64, Action, usize, usize),
+    Change(u32, u64, Action, usize, usize),
 }
 
 // What reading a path answers: how many bytes it has, and where the words behind it begin; or that the words are malformed.

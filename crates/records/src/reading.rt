@@ -4,6 +4,7 @@ use crate::KIND_UNIT;
 use crate::LENGTH;
 use crate::PATH_ROOM;
 use crate::PathRead;
+use crate::RUN;
 use crate::Record;
 use crate::SWITCHES;
 use crate::words::Word;
@@ -27,7 +28,20 @@ ghost use Rattle.paths.specs.Resolving.{maxPath};
 ghost use Rattle.table.specs.Carrying.{actionOf};
 ghost use Rattle.records.specs.Records.{pathWords, bytesFrom, ifResolved, readFirst};
 ghost use Rattle.records.specs.Answers.{ReadsRecord};
-ghost use Rattle.records.specs.Steps.{wordsFor, wordBytes, lengthOf, HandsOver, pathBehind, ReadsPath, pathAct, pathRecord, switchesRecord};
+ghost use Rattle.records.specs.Steps.{wordsFor, wordBytes, runOf, lengthOf, HandsOver, pathBehind, ReadsPath, pathAct, pathRecord, switchesRecord};
+
+// The run that a word says, or 0 if it is no run word.
+pub fn run_of(word: Word) -> u32
+    ensures { λ r. ⌜ r ≡ runOf word ⌝ }
+{
+    let Word::Is(word) = word else {
+        return 0;
+    };
+    if word / KIND_UNIT != RUN {
+        return 0;
+    }
+    word % KIND_UNIT
+}
 
 // The path length that a word says, or 0 if it is no length word.
 fn path_length(word: Word) -> usize
@@ -117,18 +131,18 @@ pub fn read_path_of(
     PathRead::Path(n, at + count)
 }
 
-// Reads a path whose length is what the second word says.
+// Reads a path whose length is what the word behind the head says.
 fn read_path(
     words: &[u32],
-    second: Word,
+    next: Word,
     at: usize,
     left: usize,
     space: &mut [u8; MAX_PATH],
 ) -> PathRead
     requires { ⌜ left ≡ length (now words) - at ⌝ }
-    ensures { λ r. ⌜ ReadsPath at (pathBehind second (drop at (now (words .entry)))) (now (space .entry)) r (now (space .exit)) ⌝ }
+    ensures { λ r. ⌜ ReadsPath at (pathBehind next (drop at (now (words .entry)))) (now (space .entry)) r (now (space .exit)) ⌝ }
 {
-    let n = path_length(second);
+    let n = path_length(next);
     if n == 0 {
         return PathRead::Malformed;
     }
@@ -149,20 +163,20 @@ fn path_action(act: u8) -> Action
 }
 
 // The record of a head that takes a path, by what reading the path answered.
-fn with_path(number: u64, act: u8, path: PathRead) -> Record
-    ensures { λ r. ⌜ r ≡ pathRecord number act path ⌝ }
+fn with_path(run: u32, number: u64, act: u8, path: PathRead) -> Record
+    ensures { λ r. ⌜ r ≡ pathRecord run number act path ⌝ }
 {
     let PathRead::Path(n, end) = path else {
         return Record::Malformed;
     };
-    Record::Change(number, path_action(act), n, end)
+    Record::Change(run, number, path_action(act), n, end)
 }
 
-// The record of a head that takes switches, which the second word says; the words behind it begin at `end`.
-fn with_switches(number: u64, second: Word, end: usize) -> Record
-    ensures { λ r. ⌜ r ≡ switchesRecord number second end ⌝ }
+// The record of a head that takes switches, which the word behind it says; the words behind that begin at `end`.
+fn with_switches(run: u32, number: u64, next: Word, end: usize) -> Record
+    ensures { λ r. ⌜ r ≡ switchesRecord run number next end ⌝ }
 {
-    let Word::Is(word) = second else {
+    let Word::Is(word) = next else {
         return Record::Malformed;
     };
     if word / KIND_UNIT != SWITCHES {
@@ -172,7 +186,7 @@ fn with_switches(number: u64, second: Word, end: usize) -> Record
     if switches > MAX_SWITCHES as u32 {
         return Record::Malformed;
     }
-    Record::Change(number, Action::SetSwitches(switches as u8), 0, end)
+    Record::Change(run, number, Action::SetSwitches(switches as u8), 0, end)
 }
 
 // Reads the record that the words from a place on begin with, and its path into the lent space. A head's kind and act bits together
@@ -181,6 +195,11 @@ pub fn read_record(words: &[u32], from: usize, space: &mut [u8; MAX_PATH]) -> Re
     ensures { λ r. ⌜ ReadsRecord from (readFirst (drop from (now (words .entry)))) (now (space .entry)) r (now (space .exit)) ⌝ }
 {
     let front = read_front(words, from);
+    let before = front.run;
+    let run = run_of(before);
+    if run == 0 {
+        return Record::Malformed;
+    }
     let first = front.head;
     let Word::Is(head) = first else {
         return Record::Malformed;
@@ -189,16 +208,17 @@ pub fn read_record(words: &[u32], from: usize, space: &mut [u8; MAX_PATH]) -> Re
     if number == 0 {
         return Record::Malformed;
     }
-    let second = front.second;
+    let next = front.next;
     let top = (head / ACT_UNIT) as u8;
     match top {
         0x11..=0x14 | 0x16 => with_path(
+            run,
             number,
             top % 16,
-            read_path(words, second, front.at, front.left, space),
+            read_path(words, next, front.at, front.left, space),
         ),
-        0x15 => with_switches(number, second, front.at),
-        0x17 => Record::Change(number, Action::RevokeAll, 0, from + 1),
+        0x15 => with_switches(run, number, next, front.at),
+        0x17 => Record::Change(run, number, Action::RevokeAll, 0, from + 2),
         0..=0x10 | 0x18..=0xFF => Record::Malformed,
     }
 }

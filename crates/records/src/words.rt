@@ -23,10 +23,11 @@ pub struct WordRead {
     pub at: usize,
 }
 
-// What a record or an image begins with: its first word, the word behind it, the place behind both, and how many words are left there.
+// What a record or an image begins with: its run word, its head, the word behind that, the place behind all three, and how many words are left there.
 pub struct Front {
+    pub run: Word,
     pub head: Word,
-    pub second: Word,
+    pub next: Word,
     pub at: usize,
     pub left: usize,
 }
@@ -89,19 +90,21 @@ pub fn left<'a>(reader: Reader<'a>) -> usize
     left_at(reader.words, reader.at)
 }
 
-// Reads what a record or an image begins with. Both words are read whatever they say, for at the end reading gives nothing: which of them it
+// Reads what a record or an image begins with. All three words are read whatever they say, for at the end reading gives nothing: which of them it
 // has is decided where they are looked at. The promise says nothing of a reader, so a caller needs no walk.
 pub fn read_front(words: &[u32], from: usize) -> Front
     ensures { λ r. ⌜ r ≡ frontAt (now (words .entry)) from ⌝ }
 {
     let mut reader = reader_at(words, from);
+    let run = next(&mut reader);
     let head = next(&mut reader);
-    let second = next(&mut reader);
+    let behind = next(&mut reader);
     let at = place(reader);
     let left = left(reader);
     Front {
+        run,
         head,
-        second,
+        next: behind,
         at,
         left,
     }

@@ -1,9 +1,10 @@
-// Writing the record of an act: each function writes a run of words from an offset on, and nothing else.
+// Writing the record of an act: each function writes a sequence of words from an offset on, and nothing else.
 use crate::ACT_UNIT;
 use crate::HEAD;
 use crate::KIND_UNIT;
 use crate::LENGTH;
 use crate::PATH;
+use crate::RUN;
 use crate::SWITCHES;
 use table::Action;
 use table::Kind;
@@ -14,7 +15,7 @@ ghost use Prim.Native.Nat.{_+_, _<_, _≤_};
 ghost use lib.ListN.{length, getD};
 ghost use Rattle.paths.specs.Copying.{Appends};
 ghost use Rattle.paths.specs.Resolving.{maxPath};
-ghost use Rattle.table.specs.Carrying.{maxNumber, actOf, fits};
+ghost use Rattle.table.specs.Carrying.{maxRun, maxNumber, actOf, fits};
 ghost use Rattle.table.specs.Calls.{recordSpace};
 ghost use Rattle.records.specs.Records.{switchesKind, kindUnit, wordOf, insertNumber, headWord, pathWords, pathPart};
 ghost use Rattle.records.specs.Answers.{recordWords};
@@ -79,33 +80,36 @@ pub fn write_path_words(words: &mut [u32], at: usize, p: &[u8]) -> usize
     at + count
 }
 
-// Writes a head, and a path's length and words behind it.
-fn write_with_path(words: &mut [u32], at: usize, head: u32, p: &[u8]) -> usize
+// Writes a run word and a head, and a path's length and words behind them.
+fn write_with_path(words: &mut [u32], at: usize, before: u32, head: u32, p: &[u8]) -> usize
     requires { ⌜ (length (now p) ≤ maxPath) × (at + recordSpace ≤ length (now words)) ⌝ }
-    ensures { λ r. ⌜ Appends (head ∷ pathPart (now (p .entry))) (now (words .entry)) at (now (words .exit)) r ⌝ }
+    ensures { λ r. ⌜ Appends (before ∷ head ∷ pathPart (now (p .entry))) (now (words .entry)) at (now (words .exit)) r ⌝ }
 {
-    words[at] = head;
-    words[at + 1] = word_of(LENGTH, p.len() as u32);
-    write_path_words(words, at + 2, p)
+    words[at] = before;
+    words[at + 1] = head;
+    words[at + 2] = word_of(LENGTH, p.len() as u32);
+    write_path_words(words, at + 3, p)
 }
 
-// Writes a head, and switches behind it.
-fn write_with_switches(words: &mut [u32], at: usize, head: u32, switches: u8) -> usize
+// Writes a run word and a head, and switches behind them.
+fn write_with_switches(words: &mut [u32], at: usize, before: u32, head: u32, switches: u8) -> usize
     requires { ⌜ at + recordSpace ≤ length (now words) ⌝ }
-    ensures { λ r. ⌜ Appends (head ∷ wordOf switchesKind switches ∷ []) (now (words .entry)) at (now (words .exit)) r ⌝ }
+    ensures { λ r. ⌜ Appends (before ∷ head ∷ wordOf switchesKind switches ∷ []) (now (words .entry)) at (now (words .exit)) r ⌝ }
 {
-    words[at] = head;
-    words[at + 1] = word_of(SWITCHES, switches as u32);
+    words[at] = before;
+    words[at + 1] = head;
+    words[at + 2] = word_of(SWITCHES, switches as u32);
+    at + 3
+}
+
+// Writes a run word and a head with nothing behind them.
+fn write_alone(words: &mut [u32], at: usize, before: u32, head: u32) -> usize
+    requires { ⌜ at + recordSpace ≤ length (now words) ⌝ }
+    ensures { λ r. ⌜ Appends (before ∷ head ∷ []) (now (words .entry)) at (now (words .exit)) r ⌝ }
+{
+    words[at] = before;
+    words[at + 1] = head;
     at + 2
-}
-
-// Writes a head with nothing behind it.
-fn write_alone(words: &mut [u32], at: usize, head: u32) -> usize
-    requires { ⌜ at + recordSpace ≤ length (now words) ⌝ }
-    ensures { λ r. ⌜ Appends (head ∷ []) (now (words .entry)) at (now (words .exit)) r ⌝ }
-{
-    words[at] = head;
-    at + 1
 }
 
 // The act number of an insert. Acts go G, D, I, P, and kinds G, D, P, I.
@@ -128,27 +132,37 @@ fn head_word(act: u32, number: u64) -> u32
     word_of(HEAD, act * ACT_UNIT + number as u32)
 }
 
-// Writes the record of an act, with the path q lent beside it, under the number of its change, and says where it ends.
-pub fn write_record(words: &mut [u32], at: usize, number: u64, action: Action, q: &[u8]) -> usize
-    requires { ⌜ (at + recordSpace ≤ length (now words)) × (number ≤ maxNumber) ⌝ }
+// Writes the record of an act, with the path q lent beside it, under its run and the number of its change, and says where it ends.
+pub fn write_record(
+    words: &mut [u32],
+    at: usize,
+    run: u32,
+    number: u64,
+    action: Action,
+    q: &[u8],
+) -> usize
+    requires { ⌜ (at + recordSpace ≤ length (now words)) × (run ≤ maxRun) × (number ≤ maxNumber) ⌝ }
     requires { ⌜ fits (actOf action (now q)) ≡ true ⌝ }
-    ensures { λ r. ⌜ Appends (recordWords number (actOf action (now (q .entry)))) (now (words .entry)) at (now (words .exit)) r ⌝ }
+    ensures { λ r. ⌜ Appends (recordWords run number (actOf action (now (q .entry)))) (now (words .entry)) at (now (words .exit)) r ⌝ }
 {
+    let before = word_of(RUN, run);
     match action {
         Action::Nothing => at,
         Action::Insert(kind) => write_with_path(
             words,
             at,
+            before,
             head_word(insert_number(kind), number),
             q,
         ),
         Action::SetSwitches(switches) => write_with_switches(
             words,
             at,
+            before,
             head_word(SET_SWITCHES, number),
             switches,
         ),
-        Action::Revoke => write_with_path(words, at, head_word(REVOKE, number), q),
-        Action::RevokeAll => write_alone(words, at, head_word(REVOKE_ALL, number)),
+        Action::Revoke => write_with_path(words, at, before, head_word(REVOKE, number), q),
+        Action::RevokeAll => write_alone(words, at, before, head_word(REVOKE_ALL, number)),
     }
 }

@@ -1,134 +1,198 @@
--- What an arrival keeps, refused or not: memory that held a table holds one, no mark is cleared, n is not above h, and the arrival is the same wherever
--- the table stands. What it promises settles every outcome.
-use Prim.Native.Nat.{ℕ, _+_, _≤_}
+-- What an arrival keeps, refused or not: memory that held a table holds one, numbers that agreed agree, and the arrival is the same wherever the table stands.
+-- What it promises settles every outcome.
+use Prim.Native.Nat.{ℕ, _+_}
 use mathlib.Core.Path.{_≡_, refl, sym, _∙_}
-use mathlib.Core.List.{List, [], _∷_}
+use mathlib.Core.List.{List}
 use mathlib.Core.Bool.{Bool, true, false, cond}
 use native.Mathlib.Omega.{arith}
-use lib.Dec.{ltb}
-use borrow.Author.Tests.{ltb-true, ltb-false}
+use lib.Dec.{leb, ltb, eqb}
 use Rattle.refusals.specs.declared.Refusal.{Refusal}
 use Rattle.refusals.specs.Refusals.{Result, refused, ok, andThen}
 use Rattle.refusals.proofs.CauseLaws.{unless-ok}
 use Rattle.table.specs.declared.Numbering.the-variants.{Plain}
-use Rattle.table.specs.Tables.{Table}
-use Rattle.table.specs.Acts.{Act, isAct, applyActs}
-use Rattle.table.specs.Memory.{tableOf, holds}
+use Rattle.table.specs.Tables.{Table, fresh, isTable}
+use Rattle.table.specs.Acts.{Act, isAct, applyAct, actOverflows}
+use Rattle.table.specs.Memory.{tableOf, holds, put, doAct, doActs}
 use Rattle.table.specs.Calls.{carried}
-use Rattle.table.proofs.ActLaws.{Acted, acted-none, acted-one, no-cause-room}
-use Rattle.table.proofs.KeepLaws.{Keeps, acted-keeps, step-acted}
-use Rattle.records.specs.Records.{Change}
+use Rattle.table.proofs.TableLaws.{fresh-table}
+use Rattle.table.proofs.Puts.{long-of, tableOf-put, holds-put}
+use Rattle.table.proofs.ActLaws.{acted-one, no-cause-room}
+use Rattle.records.specs.Records.{Change, readChange}
 use Rattle.records.proofs.WrittenLaws.{written-back}
+use Rattle.images.specs.Images.{Image, readImage}
+use Rattle.images.proofs.WrittenLaws.{image-within}
 use Rattle.standby.specs.declared.Numbers.{Numbers}
 use Rattle.standby.specs.declared.Arrival.{Arrival}
-use Rattle.standby.specs.Arriving.{standbyIn, Taken, higher, applied, passedBy, taken, arrival, actsIn, numbersIn, Arrives}
-use Rattle.standby.proofs.ArrivingLaws.{arrival-by, taken-by}
+use Rattle.standby.specs.declared.Arrival.the-variants.{Repeat, Early}
+use Rattle.standby.specs.Arriving.{met, Left, stays, applies, applied, inRun, moves, moved, taken, standbyIn, wellFormed, arrival, leftBy, Comes}
+use Rattle.standby.specs.Loading.{isImage, isTaken, takes, loaded, loading}
+use Rattle.standby.proofs.ArrivingLaws.{Agrees, Meets, meets, fresh-room, Taking, lower, waits, comes, repeats, early, next, taking, arrival-by}
+use Rattle.standby.proofs.LoadingLaws.{Loading, taken as is-taken, passed, loading-as, loading-by}
 
--- ---- its act can be carried out
+-- ---- numbers that agree
 
-no-acts : (cause : Refusal) → actsIn (refused cause) ≡ []
-unfolding actsIn
-no-acts cause = refl
+-- number k of run q is met, and the standby stays where it is, or comes to that run and that number
+stays-agrees : {s s′ : Numbers} {q k : ℕ} → Meets s q k s′ → Agrees s → Agrees s′
+stays-agrees M A = record {
+  below = omega (arith, M .same-run, M .up, A .below);
+  ordered = λ e. omega (arith, M .same-n, M .keeps (omega (arith, M .same-run, M .up, A .below)), A .ordered (omega (arith, M .same-run, M .up, A .below)));
+}
 
-module _ (m : List ℕ) (h : holds m ≡ true) where
-  carried-acted : (act : Act) {a : Act} → isAct act ≡ true → carried Plain (tableOf m) act ≡ ok a → Acted m (a ∷ [])
-  unfolding carried
-  carried-acted act f e =
-      let u = unless-ok _ act e in
-      rw (u .1) at (acted-one m act h f (no-cause-room Plain (tableOf m) act (u .0)))
+comes-agrees : {s s′ : Numbers} {q k n run : ℕ} → Meets s q k s′ → run ≡ q → n ≡ k → Agrees (record { n = n; h = s′ .h; run = run; highest = s′ .highest })
+comes-agrees M e f = record { below = omega (arith, M .over); ordered = λ g. omega (arith, M .reaches (omega arith)) }
 
-  applied-acted : (s : Numbers) (c : Change) → isAct (c .act) ≡ true → Acted m (actsIn (applied (tableOf m) s c))
-  unfolding applied actsIn
-  applied-acted s c f = step-acted actsIn no-acts m (carried Plain (tableOf m) (c .act)) _ h (λ a e. carried-acted (c .act) f e)
+-- ---- what is left
 
-  pub taken-acted : (s : Numbers) (c : Change) → isAct (c .act) ≡ true → Acted m (actsIn (taken (tableOf m) s c))
-  unfolding passedBy actsIn
-  taken-acted s c f = taken-by (tableOf m) s c (λ r. Acted m (actsIn r)) (λ l. acted-none m h) (λ l. acted-none m h) (λ e. applied-acted s c f)
+-- memory holds a table, and the numbers agree if they did
+pub record Kept (s : Numbers) (left : Left) : Type 0 where
+  pub holding : holds (left .memory) ≡ true
+  pub agreeing : Agrees s → Agrees (left .numbers)
 
-  pub arrival-acted : (words : List ℕ) (s : Numbers) → Acted m (actsIn (arrival m words s))
-  unfolding actsIn
-  arrival-acted words s =
-      arrival-by m words s (λ r. Acted m (actsIn r)) (λ cause. acted-none m h) (λ c e. taken-acted s c (written-back words c e .1 .fits))
+-- whatever is refused leaves memory and numbers as they were
+KeptBy : List ℕ → Numbers → Result Left → Type 0
+KeptBy m s r = Kept s (leftBy r m s)
 
--- ---- the numbers
+module _ (m : List ℕ) (s : Numbers) (h : holds m ≡ true) where
+  kept-refused : (cause : Refusal) → KeptBy m s (refused cause)
+  unfolding KeptBy leftBy
+  kept-refused cause = record { holding = h; agreeing = λ A. A }
 
-pub higher-least : (h number : ℕ) → (h ≤ higher h number) × (number ≤ higher h number)
-unfolding higher
-higher-least h number = go (ltb h number) refl
-  where
-    go : (b : Bool) → ltb h number ≡ b → (h ≤ cond b number h) × (number ≤ cond b number h)
-    go true e = let l = ltb-true h number e in (omega arith, omega arith)
-    go false e = let l = ltb-false h number e in (omega arith, omega arith)
+  act-holds : (x : List ℕ) → holds x ≡ true → (act : Act) → isAct act ≡ true → actOverflows (tableOf x) act ≡ false → holds (doAct x act) ≡ true
+  unfolding doActs
+  act-holds x k act fit room = acted-one x act k fit room .holding
 
--- neither number falls, and n does not come above h
-pub record Raises (s s′ : Numbers) : Type 0 where
-  pub last : s .n ≤ s′ .n
-  pub highest : s .h ≤ s′ .h
-  pub ordered : s .n ≤ s .h → s′ .n ≤ s′ .h
+  -- a change
+  module _ (c : Change) (fit : isAct (c .act) ≡ true) where
+    after : Numbers
+    after = met s (c .run) (c .number)
 
-module _ (s : Numbers) where
-  pub raises-none : Raises s s
-  raises-none = record { last = omega arith; highest = omega arith; ordered = λ l. l }
+    M : Meets s (c .run) (c .number) after
+    unfolding after
+    M = meets s (c .run) (c .number)
 
-  passed-raises : (a : Arrival) (c : Change) → Raises s (numbersIn (passedBy a s c) s)
-  unfolding passedBy numbersIn
-  passed-raises a c =
-      let l = higher-least (s .h) (c .number) in
-      record { last = omega arith; highest = l .0; ordered = λ o. omega arith }
+    kept-stays : (a : Arrival) → KeptBy m s (ok (stays a m after))
+    unfolding KeptBy leftBy
+    kept-stays a = record { holding = h; agreeing = stays-agrees M }
 
-  step-raises : {A : Type 0} (a : Result A) (f : A → Result Taken) → ((x : A) → Raises s (numbersIn (f x) s)) → Raises s (numbersIn (andThen a f) s)
-  unfolding andThen numbersIn
-  step-raises (refused cause) f k = raises-none
-  step-raises (ok x) f k = k x
+    kept-applied : c .run ≡ after .run → c .number ≡ after .n + 1 → (r : Result Act) → carried Plain (tableOf m) (c .act) ≡ r
+        → KeptBy m s (andThen r (λ act. ok (applies m after act)))
+    unfolding KeptBy leftBy andThen carried
+    kept-applied q k (refused cause) e = record { holding = h; agreeing = λ A. A }
+    kept-applied q k (ok act) e =
+        let u = unless-ok _ (c .act) e in
+        let is : c .act ≡ act = u .1 in
+        record {
+          holding = rw is at (act-holds m h (c .act) fit (no-cause-room Plain (tableOf m) (c .act) (u .0)));
+          agreeing = λ A. comes-agrees M (sym q) (sym k);
+        }
 
-  applied-raises : (t : Table) (c : Change) → c .number ≡ s .n + 1 → Raises s (numbersIn (applied t s c) s)
-  unfolding applied numbersIn
-  applied-raises t c e =
-      let l = higher-least (s .h) (c .number) in
-      step-raises (carried Plain t (c .act)) _ (λ a. record { last = omega arith; highest = l .0; ordered = λ o. omega arith })
+    taken-kept : {r : Result Left} → Taking (tableOf m) m after c r → KeptBy m s r
+    taken-kept (lower l) = kept-stays Repeat
+    taken-kept (waits l ne) = kept-stays Early
+    taken-kept (comes l one) = unfold KeptBy leftBy in record {
+      holding = act-holds (put fresh m) (holds-put fresh m fresh-table (long-of m h)) (c .act) fit (rw (tableOf-put fresh m) (fresh-room (c .act) fit));
+      agreeing = λ A. comes-agrees M refl (sym one);
+    }
+    taken-kept (repeats q l) = kept-stays Repeat
+    taken-kept (early q l) = kept-stays Early
+    taken-kept (next q k) = unfold applied in kept-applied q k (carried Plain (tableOf m) (c .act)) refl
 
-  pub taken-raises : (t : Table) (c : Change) → Raises s (numbersIn (taken t s c) s)
-  taken-raises t c = taken-by t s c (λ r. Raises s (numbersIn r s)) (λ l. passed-raises _ c) (λ l. passed-raises _ c) (applied-raises t c)
+  -- an image
+  module _ (i : Image) (v : isTable (i .table) ≡ true) where
+    loaded-kept : {left : Left} → Loading m (met s (i .run) (i .number)) i left → KeptBy m s (ok left)
+    unfolding KeptBy leftBy takes
+    loaded-kept (is-taken l k) = record { holding = holds-put (i .table) m v (long-of m h); agreeing = λ A. comes-agrees (meets s (i .run) (i .number)) refl refl }
+    loaded-kept (passed l k) = record { holding = h; agreeing = stays-agrees (meets s (i .run) (i .number)) }
 
--- ---- by the promise
+  pub arrival-kept : (words : List ℕ) → Kept s (leftBy (arrival m words s) m s)
+  unfolding KeptBy after
+  arrival-kept words =
+      arrival-by m words s (KeptBy m s) kept-refused (λ c e. taken-kept c (written-back words c e .1 .fits) (taking (tableOf m) m (met s (c .run) (c .number)) c))
 
-module _ (m words : List ℕ) (s : Numbers) {m′ : List ℕ} {s′ : Numbers} {r : Arrival} (A : Arrives m words s m′ s′ r) where
-  pub arrival-raises : Raises s s′
-  unfolding numbersIn
-  arrival-raises = rw (A .numbers) (arrival-by m words s (λ r. Raises s (numbersIn r s)) (λ cause. raises-none s) (λ c e. taken-raises s (tableOf m) c))
+  pub loading-kept : (words : List ℕ) → Kept s (leftBy (loading m words s) m s)
+  unfolding KeptBy
+  loading-kept words = loading-by m words s (KeptBy m s) kept-refused (λ i e. loaded-kept i (image-within words e .0) (loading-as m (met s (i .run) (i .number)) i))
 
-  module _ (h : holds m ≡ true) where
-    pub arrival-held : holds m′ ≡ true
-    arrival-held = rw (A .memory) (arrival-acted m h words s .holding)
+-- ---- by the promise, of a record or of an image
 
-    pub arrival-keeps : Keeps (tableOf m .marks) (tableOf m′ .marks)
-    arrival-keeps = rw (A .memory) (acted-keeps h (arrival-acted m h words s))
+module _ {call : Result Left} {m m′ : List ℕ} {s s′ : Numbers} {r : Arrival} (K : Kept s (leftBy call m s)) (C : Comes call m s m′ s′ r) where
+  pub comes-held : holds m′ ≡ true
+  comes-held = rw (C .memory) (K .holding)
 
-    pub arrival-table : tableOf m′ ≡ applyActs (tableOf m) (actsIn (arrival m words s))
-    arrival-table = rw (A .memory) (arrival-acted m h words s .table)
+  pub comes-agreeing : Agrees s → Agrees s′
+  comes-agreeing A = rw (C .numbers) (K .agreeing A)
 
 -- ---- the promise settles the outcome
 
-module _ (m words : List ℕ) (s : Numbers) where
-  pub arrives-exists : (m′ : List ℕ) × (s′ : Numbers) × (r : Arrival) × Arrives m words s m′ s′ r
-  arrives-exists = (_, _, _, record { answer = refl; memory = refl; numbers = refl })
+module _ (call : Result Left) (m : List ℕ) (s : Numbers) where
+  pub comes-exists : (m′ : List ℕ) × (s′ : Numbers) × (r : Arrival) × Comes call m s m′ s′ r
+  comes-exists = (_, _, _, record { answer = refl; memory = refl; numbers = refl })
 
-  pub arrives-only : {m′ n′ : List ℕ} {s′ t′ : Numbers} {r q : Arrival} → Arrives m words s m′ s′ r → Arrives m words s n′ t′ q
-      → (m′ ≡ n′) × (s′ ≡ t′) × (r ≡ q)
-  arrives-only A B = (A .memory ∙ sym (B .memory), A .numbers ∙ sym (B .numbers), A .answer ∙ sym (B .answer))
+  pub comes-only : {m′ n′ : List ℕ} {s′ t′ : Numbers} {r q : Arrival} → Comes call m s m′ s′ r → Comes call m s n′ t′ q → (m′ ≡ n′) × (s′ ≡ t′) × (r ≡ q)
+  comes-only A B = (A .memory ∙ sym (B .memory), A .numbers ∙ sym (B .numbers), A .answer ∙ sym (B .answer))
 
 -- ---- wherever the table stands: memory of another length, or with other bytes behind it
 
-module _ (m n : List ℕ) (h : holds m ≡ true) (k : holds n ≡ true) (e : tableOf m ≡ tableOf n) (words : List ℕ) (s : Numbers) where
-  pub same-arrival : arrival m words s ≡ arrival n words s
-  unfolding arrival standbyIn
-  same-arrival = rw (h, k, e)
+-- the same answer, table and numbers
+pub record Same (a b : Left) : Type 0 where
+  pub answer : a .answer ≡ b .answer
+  pub table : tableOf (a .memory) ≡ tableOf (b .memory)
+  pub numbers : a .numbers ≡ b .numbers
 
-  -- and it leaves the same table
-  pub same-arrived : {m′ n′ : List ℕ} {s′ t′ : Numbers} {r q : Arrival} → Arrives m words s m′ s′ r → Arrives n words s n′ t′ q
-      → (tableOf m′ ≡ tableOf n′) × (s′ ≡ t′) × (r ≡ q)
-  same-arrived A B = (
-    arrival-table m words s A h ∙ rw (e, same-arrival) (sym (arrival-table n words s B k)),
-    A .numbers ∙ rw same-arrival (sym (B .numbers)),
-    A .answer ∙ rw same-arrival (sym (B .answer)),
-  )
+module _ (m n : List ℕ) (h : holds m ≡ true) (k : holds n ≡ true) (e : tableOf m ≡ tableOf n) (s : Numbers) where
+  pub data Alike : Result Left → Result Left → Type 0 where
+    stop : {cause : Refusal} → Alike (refused cause) (refused cause)
+    leave : {a b : Left} → Same a b → Alike (ok a) (ok b)
+
+  alike-if : (b : Bool) {x y x′ y′ : Result Left} → Alike x y → Alike x′ y′ → Alike (cond b x x′) (cond b y y′)
+  alike-if true A B = A
+  alike-if false A B = B
+
+  same-if : (b : Bool) {x y x′ y′ : Left} → Same x y → Same x′ y′ → Same (cond b x x′) (cond b y y′)
+  same-if true A B = A
+  same-if false A B = B
+
+  alike-step : {A : Type 0} (r : Result A) {f g : A → Result Left} → ((x : A) → Alike (f x) (g x)) → Alike (andThen r f) (andThen r g)
+  unfolding andThen
+  alike-step (refused cause) F = stop
+  alike-step (ok x) F = F x
+
+  same-stays : (a : Arrival) (t : Numbers) → Same (stays a m t) (stays a n t)
+  same-stays a t = record { answer = refl; table = e; numbers = refl }
+
+  same-applies : (t : Numbers) (act : Act) → Same (applies m t act) (applies n t act)
+  unfolding doAct
+  same-applies t act = record { answer = refl; table = rw (tableOf-put (applyAct (tableOf m) act) m, tableOf-put (applyAct (tableOf n) act) n, e); numbers = refl }
+
+  same-moves : (t : Numbers) (c : Change) → Same (moves m t c) (moves n t c)
+  unfolding doAct
+  same-moves t c = record {
+    answer = refl;
+    table = rw (
+      tableOf-put (applyAct (tableOf (put fresh m)) (c .act)) (put fresh m),
+      tableOf-put (applyAct (tableOf (put fresh n)) (c .act)) (put fresh n),
+      tableOf-put fresh m,
+      tableOf-put fresh n,
+    );
+    numbers = refl;
+  }
+
+  alike-taken : (t : Table) (x : Numbers) (c : Change) → Alike (taken t m x c) (taken t n x c)
+  unfolding taken moved inRun applied
+  alike-taken t x c =
+      alike-if (ltb (c .run) (x .run)) (leave (same-stays Repeat x))
+      (alike-if (ltb (x .run) (c .run)) (leave (same-if (eqb (c .number) 1) (same-moves x c) (same-stays Early x)))
+      (alike-if (leb (c .number) (x .n)) (leave (same-stays Repeat x))
+      (alike-if (eqb (c .number) (x .n + 1)) (alike-step (carried Plain t (c .act)) (λ act. leave (same-applies x act))) (leave (same-stays Early x)))))
+
+  same-loaded : (x : Numbers) (i : Image) → Same (loaded m x i) (loaded n x i)
+  unfolding loaded takes
+  same-loaded x i = same-if (isTaken x (i .run) (i .number)) (record { answer = refl; table = rw (tableOf-put (i .table) m, tableOf-put (i .table) n); numbers = refl }) (same-stays Repeat x)
+
+  pub alike-arrival : (words : List ℕ) → Alike (arrival m words s) (arrival n words s)
+  unfolding arrival standbyIn
+  alike-arrival words = rw (h, k, e) (alike-step _ (λ t. alike-step (wellFormed (readChange words)) (λ c. alike-taken t _ c)))
+
+  pub alike-loading : (words : List ℕ) → Alike (loading m words s) (loading n words s)
+  unfolding loading standbyIn
+  alike-loading words = rw (h, k, e) (alike-step _ (λ t. alike-step (isImage (readImage words)) (λ i. leave (same-loaded _ i))))

@@ -1,5 +1,5 @@
 pub mod ArrivingLaws
-pub mod KeepLaws
-pub mod Lending
 pub mod LoadingLaws
+pub mod KeepLaws
 pub mod OwingLaws
+pub mod Lending

@@ -1,15 +1,27 @@
--- Laws of what is owed: the report where n is above h, and where it is not.
-use Prim.Native.Nat.{ℕ, _≤_, _<_}
+-- Laws of what is owed: the report by the standby's numbers.
+use Prim.Native.Nat.{ℕ, _-_}
 use mathlib.Core.Path.{_≡_}
-use borrow.Author.Tests.{lt-ltb, le-ltb}
+use mathlib.Core.Bool.{true, false}
+use borrow.Author.Tests.{eq-eqb, ne-eqb}
 use Rattle.refusals.specs.declared.Refusal.the-variants.{NoTable}
 use Rattle.standby.specs.declared.Numbers.{Numbers}
 use Rattle.standby.specs.declared.Owed.the-variants.{Changes, Refused}
+use Rattle.standby.specs.Arriving.{conflict}
 use Rattle.standby.specs.Owing.{owedOf, owing}
 
 module _ (s : Numbers) where
-  pub owing-above : s .h < s .n → Refused NoTable ≡ owing s
-  owing-above l = rw (lt-ltb (s .h) (s .n) l)
+  pub owed-in : s .run ≡ s .highest → owedOf s ≡ s .h - s .n
+  unfolding owedOf
+  owed-in e = rw (eq-eqb (s .run) (s .highest) e)
 
-  pub owing-exact : {k : ℕ} → s .n ≤ s .h → k ≡ owedOf s → Changes k ≡ owing s
-  owing-exact l e = rw (le-ltb (s .h) (s .n) l, e)
+  pub owed-behind : (s .run ≡ s .highest → ⊥) → owedOf s ≡ s .h
+  unfolding owedOf
+  owed-behind ne = rw (ne-eqb (s .run) (s .highest) ne)
+
+  pub owing-conflict : conflict s ≡ true → Refused NoTable ≡ owing s
+  unfolding owing
+  owing-conflict e = rw e
+
+  pub owing-exact : {k : ℕ} → conflict s ≡ false → k ≡ owedOf s → Changes k ≡ owing s
+  unfolding owing
+  owing-exact e f = rw (e, f)

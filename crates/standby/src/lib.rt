@@ -5,10 +5,13 @@ pub mod arriving;
 pub mod loading;
 pub mod owing;
 
-// The standby's two numbers: the last change applied, and the highest number in any record or image not refused.
+// The standby's numbers: the last change applied in its run, the highest number met in the highest run met, its run, and the highest run met. A record or an
+// image that is not refused is met. All four are 0 on a fresh standby.
 pub struct Numbers {
     pub n: u64,
     pub h: u64,
+    pub run: u32,
+    pub highest: u32,
 }
 
 // What an arrival answers: its change was applied, had been before, or is not due yet; or its image was taken; or the arrival is refused.

@@ -25,13 +25,13 @@ use Rattle.table.specs.Entries.{kindOf, knownKind}
 use Rattle.table.specs.Tables.{Table, fresh, maxSwitches}
 use Rattle.table.specs.Acts.{Act, insert, setSwitches}
 use Rattle.table.specs.Memory.{tableBytes, tableOf, holds, encode, encodeAll, put, doActs}
-use Rattle.table.specs.Carrying.{Link, plain, linked, carryCause, actsOf, outcomeOf, CarriesOut}
+use Rattle.table.specs.Carrying.{Link, plain, linked, isRun, carryCause, actsOf, outcomeOf, CarriesOut}
 use Rattle.table.specs.Calls.{
   tableIn,
   freshIn,
   recordSpace,
   atLeastOne,
-  recordRoom,
+  linkIn,
   knownSwitches,
   carried,
   actsIn,
@@ -67,19 +67,24 @@ module _ (m : List ℕ) where
   unfolding freshIn firstCause unless
   fresh-long h = rw (le-ltb _ _ h)
 
--- a plain call has nothing to test, and a linked one the length of its record space
-pub room-plain : (k : ℕ) → recordRoom k plain ≡ ok Plain
-unfolding recordRoom
+-- a plain call has nothing to test; a linked one has the length of its record space, and its run number
+pub room-plain : (k : ℕ) → linkIn k plain ≡ ok Plain
+unfolding linkIn
 room-plain k = refl
 
-module _ (k n : ℕ) (w : List ℕ) where
-  pub room-short : ltb (length w) (recordSpace * atLeastOne k) ≡ true → recordRoom k (linked n w) ≡ refused NoSpace
-  unfolding recordRoom firstCause unless
+module _ (k run n : ℕ) (w : List ℕ) where
+  pub room-short : ltb (length w) (recordSpace * atLeastOne k) ≡ true → linkIn k (linked run n w) ≡ refused NoSpace
+  unfolding linkIn firstCause unless
   room-short e = rw e
 
-  pub room-long : ltb (length w) (recordSpace * atLeastOne k) ≡ false → recordRoom k (linked n w) ≡ ok (After n)
-  unfolding recordRoom firstCause unless
-  room-long e = rw e
+  module _ (long : ltb (length w) (recordSpace * atLeastOne k) ≡ false) where
+    pub run-unknown : isRun run ≡ false → linkIn k (linked run n w) ≡ refused Unknown
+    unfolding linkIn firstCause unless
+    run-unknown e = rw (long, e)
+
+    pub run-known : isRun run ≡ true → linkIn k (linked run n w) ≡ ok (After n)
+    unfolding linkIn firstCause unless
+    run-known e = rw (long, e)
 
 -- ---- a call that makes one act
 
@@ -127,11 +132,11 @@ module _ (link : Link) (m : List ℕ) (v : ℕ) where
   switches-no-table h = rw (no-table m h)
 
   module _ (h : holds m ≡ true) where
-    pub switches-no-room : recordRoom 1 link ≡ refused NoSpace → switchesCall link m v ≡ refused NoSpace
+    pub switches-unlinked : {cause : Refusal} → linkIn 1 link ≡ refused cause → switchesCall link m v ≡ refused cause
     unfolding switchesCall andThen
-    switches-no-room e = rw (a-table m h, e)
+    switches-unlinked e = rw (a-table m h, e)
 
-    module _ {numbers : Numbering} (room : recordRoom 1 link ≡ ok numbers) where
+    module _ {numbers : Numbering} (room : linkIn 1 link ≡ ok numbers) where
       pub switches-unknown : maxSwitches < v → switchesCall link m v ≡ refused Unknown
       unfolding switchesCall andThen knownSwitches firstCause unless
       switches-unknown l = rw (a-table m h, room, lt-ltb _ _ l)
@@ -148,11 +153,11 @@ module _ (link : Link) (m : List ℕ) (kind : ℕ) (p cwd : List ℕ) where
   insert-no-table h = rw (no-table m h)
 
   module _ (h : holds m ≡ true) where
-    pub insert-no-room : recordRoom 1 link ≡ refused NoSpace → insertCall link m kind p cwd ≡ refused NoSpace
+    pub insert-unlinked : {cause : Refusal} → linkIn 1 link ≡ refused cause → insertCall link m kind p cwd ≡ refused cause
     unfolding insertCall andThen
-    insert-no-room e = rw (a-table m h, e)
+    insert-unlinked e = rw (a-table m h, e)
 
-    module _ {numbers : Numbering} (room : recordRoom 1 link ≡ ok numbers) where
+    module _ {numbers : Numbering} (room : linkIn 1 link ≡ ok numbers) where
       pub insert-unknown : kindOf kind ≡ kind-read.Unknown → insertCall link m kind p cwd ≡ refused Unknown
       unfolding insertCall andThen knownKind
       insert-unknown e = rw (a-table m h, room, e)

@@ -24,7 +24,7 @@ use Rattle.table.specs.Tables.{Table, has, hasFlagDenied, hasPromptDenie
 use Rattle.table.specs.Acts.{Act, insert, setSwitches, revoke, revokeAll, revokedBy, inserted, insertedBy, isAct, applyAct, applyActs}
 use Rattle.table.specs.Memory.{tableOf, holds, doActs}
 use Rattle.table.specs.Carrying.{Link, carryCause, actsOf, fits}
-use Rattle.table.specs.Calls.{tableIn, recordRoom, knownSwitches, carried, actsIn, switchesCall, insertCall, SetsSwitches, Inserts}
+use Rattle.table.specs.Calls.{tableIn, linkIn, knownSwitches, carried, actsIn, switchesCall, insertCall, SetsSwitches, Inserts}
 use Rattle.paths.proofs.ComponentLaws.{and-left}
 use Rattle.table.proofs.TableLaws.{any-more, marksBy, valid-parts}
 use Rattle.table.proofs.Puts.{valid-of}
@@ -117,7 +117,7 @@ unfolding switchesCall
 switches-acted link m v h =
     rw (a-table m h)
     (unfold andThen in
-    step-acted actsIn no-acts m (recordRoom 1 link) _ h (λ numbers f.
+    step-acted actsIn no-acts m (linkIn 1 link) _ h (λ numbers f.
     step-acted actsIn no-acts m (knownSwitches v) _ h (λ k e.
     carried-acted numbers m (setSwitches k) h (switches-by v e))))
 
@@ -130,7 +130,7 @@ unfolding insertCall
 insert-acted link m kind p cwd h =
     rw (a-table m h)
     (unfold andThen in
-    step-acted actsIn no-acts m (recordRoom 1 link) _ h (λ numbers g.
+    step-acted actsIn no-acts m (linkIn 1 link) _ h (λ numbers g.
     step-acted actsIn no-acts m (knownKind (kindOf kind)) _ h (λ k e.
     step-acted actsIn no-acts m (resolved p cwd) _ h (λ q f.
     carried-acted numbers m (insert (record { kind = k; path = q })) h (insert-fits k q (resolved-fits p cwd f))))))

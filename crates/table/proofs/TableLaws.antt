@@ -12,6 +12,7 @@ use Rattle.table.specs.declared.Kind.the-variants.{G, D, P, I}
 use Rattle.table.specs.Entries.{Entry, kindNumber}
 use Rattle.table.specs.Tables.{
   Table,
+  fresh,
   has,
   setBit,
   marked,
@@ -161,3 +162,8 @@ marks-present G es h = unfold marked in refl
 marks-present D es h = sym (mark-set D (present D es) (present P es) (present I es)) ∙ rw h
 marks-present P es h = sym (mark-set P (present D es) (present P es) (present I es)) ∙ rw h
 marks-present I es h = sym (mark-set I (present D es) (present P es) (present I es)) ∙ rw h
+
+-- a fresh table is within its limits
+pub fresh-table : isTable fresh ≡ true
+unfolding isTable pathBytes every marksOf present any
+fresh-table = refl

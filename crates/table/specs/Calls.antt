@@ -1,5 +1,5 @@
 -- The calls on a table: for each its checking order, its answer, and the memory after it. A linked call is the same chain of steps, with the record
--- space tested (2) and its act numbered (9); what it sends is said where the records are. Scope, "A call comes in".
+-- space (2) and the run number (3) tested and its act numbered (9); what it sends is said where the records are. Scope, "A call comes in".
 use Prim.Native.Nat.{ℕ, zero, suc, _*_}
 use mathlib.Core.Path.{_≡_}
 use mathlib.Core.List.{List, [], _∷_}
@@ -17,7 +17,7 @@ use Rattle.table.specs.Entries.{kindOf, knownKind}
 use Rattle.table.specs.Tables.{Table, fresh, maxSwitches}
 use Rattle.table.specs.Acts.{Act, insert, setSwitches}
 use Rattle.table.specs.Memory.{tableBytes, tableOf, holds, put, doActs}
-use Rattle.table.specs.Carrying.{Link, plain, linked, carryCause, outcomeOf}
+use Rattle.table.specs.Carrying.{Link, plain, linked, isRun, carryCause, outcomeOf}
 
 -- ---- steps of the checking order
 
@@ -31,17 +31,18 @@ freshIn m = unless (firstCause (when (ltb (length m) tableBytes) NoTable ∷ [])
 
 -- the words that the longest record takes, with a path of 1,024 bytes: `few-words`
 abbrev pub recordSpace : ℕ
-recordSpace = 344
+recordSpace = 345
 
 unfoldable pub atLeastOne : ℕ → ℕ
 atLeastOne zero = 1
 atLeastOne (suc k) = suc k
 
--- 2: the record space of a linked call has 344 words for each of its k items, and at least 344. What is handed on is how acts are numbered: a plain
--- call's are not, and a linked one's go on from the number lent.
-unfoldable pub recordRoom : ℕ → Link → Result Numbering
-recordRoom k plain = ok Plain
-recordRoom k (linked n w) = unless (firstCause (when (ltb (length w) (recordSpace * atLeastOne k)) NoSpace ∷ [])) (After n)
+-- 2: the record space of a linked call has 345 words for each of its k items, and at least 345; 3: its run number is known. What is handed on is how acts
+-- are numbered: a plain call's are not, and a linked one's go on from the number lent.
+unfoldable pub linkIn : ℕ → Link → Result Numbering
+linkIn k plain = ok Plain
+linkIn k (linked run n w) =
+    unless (firstCause (when (ltb (length w) (recordSpace * atLeastOne k)) NoSpace ∷ when (not (isRun run)) Unknown ∷ [])) (After n)
 
 -- 3: known switches
 unfoldable pub knownSwitches : ℕ → Result ℕ
@@ -77,7 +78,7 @@ pub record MakesFresh (m m′ : List ℕ) (r : Outcome) : Type 0 where
 unfoldable pub switchesCall : Link → List ℕ → ℕ → Result Act
 switchesCall link m v =
     andThen (tableIn m) (λ t.
-    andThen (recordRoom 1 link) (λ numbers.
+    andThen (linkIn 1 link) (λ numbers.
     andThen (knownSwitches v) (λ k.
     carried numbers t (setSwitches k))))
 
@@ -90,7 +91,7 @@ SetsSwitches m v m′ r = Does (switchesCall plain m v) m m′ r
 unfoldable pub insertCall : Link → List ℕ → ℕ → List ℕ → List ℕ → Result Act
 insertCall link m kind p cwd =
     andThen (tableIn m) (λ t.
-    andThen (recordRoom 1 link) (λ numbers.
+    andThen (linkIn 1 link) (λ numbers.
     andThen (knownKind (kindOf kind)) (λ k.
     andThen (resolved p cwd) (λ q.
     carried numbers t (insert (record { kind = k; path = q }))))))

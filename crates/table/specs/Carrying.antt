@@ -3,7 +3,7 @@ use Prim.Native.Nat.{ℕ, _+_}
 use mathlib.Core.Path.{_≡_}
 use mathlib.Core.List.{List, [], _∷_}
 use mathlib.Core.Option.{Option, none, some}
-use mathlib.Core.Bool.{Bool, true, false}
+use mathlib.Core.Bool.{Bool, true, false, _&&_}
 use lib.ListN.{length}
 use lib.Dec.{leb}
 use Rattle.refusals.specs.declared.Refusal.{Refusal}
@@ -19,11 +19,18 @@ use Rattle.table.specs.Tables.{Table}
 use Rattle.table.specs.Acts.{Act, insert, setSwitches, revoke, revokeAll, isAct, actOverflows}
 use Rattle.table.specs.Memory.{tableOf, doActs}
 
--- ---- the link: a plain call is lent nothing of it, and a linked one the main's last number and the record space
+-- ---- the link: a plain call has nothing of it; a linked one is handed the main's run number, and lent its last change number and the record space
 
 pub data Link : Type 0 where
   plain : Link
-  linked : ℕ → List ℕ → Link
+  linked : ℕ → ℕ → List ℕ → Link
+
+-- run numbers have 28 bits, and are 1 or more
+abbrev pub maxRun : ℕ
+maxRun = 268435455
+
+unfoldable pub isRun : ℕ → Bool
+isRun run = leb 1 run && leb run maxRun
 
 -- ---- numbers: a plain call numbers no act
 

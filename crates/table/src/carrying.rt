@@ -1,6 +1,7 @@
 // Carrying out the act that a call decided on, the only change of a table. Scope, "A call comes in".
 use crate::Action;
 use crate::MAX_NUMBER;
+use crate::MAX_RUN;
 use crate::Numbering;
 use crate::Outcome;
 use crate::inserting::insert_entry;
@@ -12,8 +13,15 @@ use refusals::Refusal;
 ghost use mathlib.Core.Path.{_≡_};
 ghost use mathlib.Core.Bool.{true};
 ghost use Rattle.table.specs.Memory.{tableOf, holds};
-ghost use Rattle.table.specs.Carrying.{usedUp, actOf, fits, CarriesOut};
+ghost use Rattle.table.specs.Carrying.{isRun, usedUp, actOf, fits, CarriesOut};
 ghost use Rattle.table.specs.Changing.{DoesAct, noNumber};
+
+// Whether a number is that of a run.
+pub fn is_run(run: u32) -> bool
+    ensures { λ r. ⌜ r ≡ isRun run ⌝ }
+{
+    (run >= 1) & (run <= MAX_RUN)
+}
 
 // Whether no number is left for a recorded act.
 fn is_used_up(numbers: Numbering) -> bool

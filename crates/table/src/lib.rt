@@ -36,8 +36,10 @@ const MAX_KIND: u8 = 3;
 
 pub const MAX_SWITCHES: u8 = 31;
 
-// The greatest change number.
+// The greatest change number, and the greatest run number.
 pub const MAX_NUMBER: u64 = 16777215;
+
+pub const MAX_RUN: u32 = 268435455;
 
 // Switches.
 pub const GRANTED: u8 = 1;

@@ -3,6 +3,7 @@ use mathlib.Core.Path.{sym}
 use native.Mathlib.Omega.{arith}
 use lib.Seq.{length-take-le}
 use Rattle.table.proofs.Overwrites.{starts-inside}
+use Rattle.standby.proofs.ArrivingLaws.{no-conflict}
 use Rattle.holdlist.proofs.KeepLaws.{input-kept}
 use borrow.Author.Needs.{needs}
 use Rattle.holdlist.proofs.main.Statement.{statement}
@@ -50,7 +51,7 @@ write-listing-requires c κs =
     let input = known .before .before .before .before in
     let fresh = input .before .before .before .before .before in
     let kept = input-kept (omega arith) (fresh .make-fresh .ensures) (input .hold-input .ensures) (known .held .given .1) in
-    (kept .holding, kept .ordered, omega arith)
+    (kept .holding, no-conflict _ (kept .agreeing), omega arith)
 
 array-share-prefix-space : tie.Need-array-share-prefix-space
 array-share-prefix-space c = starts-inside (c .before .write-listing .ensures)

@@ -1,4 +1,4 @@
--- `count_owed` meets its contract: where n is not above h the report is not refused.
+-- `count_owed` meets its contract: where the numbers are a standby's the report is not refused.
 use Rattle.holdlist.proofs.LineLaws.{owed-count, owed-unrefused}
 use borrow.Author.Needs.{needs}
 use Rattle.holdlist.proofs.printing.count_owed.Statement.{statement}

@@ -13,7 +13,7 @@ use Rattle.holdlist.proofs.reading.hold_next.Tie as tie
 next : (c : tie.After-end)
     → let take = c .before .before .before .before .before .before in
     let a = take .before .before .before .before .before .args in
-    NextRecord (standing (now (a .mem)) (a .held)) (now (a .bytes)) (take .take-words .last .1 .1 .0) (take .take-words .result) (c .end .given .0 .1 .1 .1 .0)
+    NextRecord (standing (now (a .mem)) (a .held)) (now (a .bytes)) (take .take-words .last .1 .1 .0) (take .take-words .result) (c .end .given .0 .1 .1 .1 .1 .0)
 next c =
     let read = c .before .before in
     let take = read .before .before .before .before in

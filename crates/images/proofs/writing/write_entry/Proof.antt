@@ -1,4 +1,4 @@
--- `write_entry` meets its contract: its store and the path words are one run of words.
+-- `write_entry` meets its contract: its store and the path words are one sequence of words.
 use mathlib.Core.Path.{_∙_}
 use native.Mathlib.Omega.{arith}
 use denote.Ref.{now}

@@ -12,13 +12,10 @@ use Rattle.images.proofs.writing.write_image.Statement.{statement}
 use Rattle.images.proofs.writing.write_image.Tie as tie
 
 abbrev Inv-loop : tie.InvT-loop
-Inv-loop mem number words₀ low at₀ cursor₀ words at cursor = Writing mem words₀ words at cursor
+Inv-loop mem run number words₀ low at₀ cursor₀ words at cursor = Writing mem words₀ words at cursor
 
 abbrev μ-loop : tie.MeasureT-loop
-μ-loop mem number words₀ low at₀ cursor₀ words at cursor = length (entriesFrom mem cursor)
-
-cast-word-of : tie.Need-cast-word-of Inv-loop μ-loop
-cast-word-of c = search needs
+μ-loop mem run number words₀ low at₀ cursor₀ words at cursor = length (entriesFrom mem cursor)
 
 word-of-requires : tie.Need-word-of-requires Inv-loop μ-loop
 word-of-requires c κs = search needs
@@ -26,6 +23,16 @@ word-of-requires c κs = search needs
 slice-write-words : tie.Need-slice-write-words Inv-loop μ-loop
 unfolding imageSize
 slice-write-words c = search needs
+
+cast-word-of : tie.Need-cast-word-of Inv-loop μ-loop
+cast-word-of c = search needs
+
+word-of-requires-2 : tie.Need-word-of-requires-2 Inv-loop μ-loop
+word-of-requires-2 c κs = search needs
+
+slice-write-words-2 : tie.Need-slice-write-words-2 Inv-loop μ-loop
+unfolding imageSize
+slice-write-words-2 c = simp length-set (omega arith)
 
 count-requires : tie.Need-count-requires Inv-loop μ-loop
 count-requires c κs = search needs
@@ -57,20 +64,20 @@ cast-low-3 c = search needs
 add-low-2 : tie.Need-add-low-2 Inv-loop μ-loop
 add-low-2 c = search needs
 
-word-of-requires-2 : tie.Need-word-of-requires-2 Inv-loop μ-loop
-word-of-requires-2 c κs = search needs
+word-of-requires-3 : tie.Need-word-of-requires-3 Inv-loop μ-loop
+word-of-requires-3 c κs = search needs
 
-slice-write-words-2 : tie.Need-slice-write-words-2 Inv-loop μ-loop
+slice-write-words-3 : tie.Need-slice-write-words-3 Inv-loop μ-loop
 unfolding imageSize
-slice-write-words-2 c = simp length-set (omega arith)
+slice-write-words-3 c = simp length-set (omega arith)
 
 first-requires : tie.Need-first-requires Inv-loop μ-loop
 first-requires c κs = search needs
 
 loop-holds : tie.Need-loop-holds Inv-loop μ-loop
 loop-holds c =
-    let p = c .before .before .before .before .before .before .before .before .pre in
-    writing-start _ _ (p .0) (simp length-set (p .2)) (c .first .ensures)
+    let p = c .before .before .before .before .before .before .before .before .before .pre in
+    writing-start _ _ (p .0) (simp length-set (p .3)) (c .first .ensures)
 
 is-at-entry-requires : tie.Need-is-at-entry-requires Inv-loop μ-loop
 is-at-entry-requires c κs = search needs
@@ -115,10 +122,12 @@ returns : tie.Need-returns Inv-loop μ-loop
 unfolding imageWords imageSize
 returns c =
     let l = c .before .before in
-    let s = l .before .before .before in
+    let t = l .before .before in
+    let s = t .before in
     let n = s .before .before .before in
-    writing-done (l .loop .inv) (now (n .before .before .before .args .words)) (n .word-of .result) (l .before .before .word-of2 .result) (sym (c .before .is-at-entry .ensures) ∙ c .if1 .left) refl (omega arith)
-    ∙ rw (n .word-of .ensures, l .before .before .word-of2 .ensures, s .switches .ensures .0, s .before .marks .ensures .0, s .before .before .count .ensures .0)
+    let r = n .before in
+    writing-done (l .loop .inv) (now (r .before .before .before .args .words)) (r .word-of .result) (n .word-of2 .result) (t .word-of3 .result) (sym (c .before .is-at-entry .ensures) ∙ c .if1 .left) refl (omega arith)
+    ∙ rw (r .word-of .ensures, n .word-of2 .ensures, t .word-of3 .ensures, s .switches .ensures .0, s .before .marks .ensures .0, s .before .before .count .ensures .0)
 
 pub write-image-spec : {M : Type 1} → statement M
 write-image-spec =
@@ -126,9 +135,11 @@ write-image-spec =
     (tie.spec
     Inv-loop
     μ-loop
-    cast-word-of
     word-of-requires
     slice-write-words
+    cast-word-of
+    word-of-requires-2
+    slice-write-words-2
     count-requires
     cast-low
     mul-low
@@ -139,8 +150,8 @@ write-image-spec =
     switches-requires
     cast-low-3
     add-low-2
-    word-of-requires-2
-    slice-write-words-2
+    word-of-requires-3
+    slice-write-words-3
     first-requires
     loop-holds
     is-at-entry-requires

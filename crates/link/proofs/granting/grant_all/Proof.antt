@@ -31,13 +31,15 @@ unfolding responsesDue
 response-at-requires c κs = (c .before .before .before .before .before .before .before .before .before .before .before .before .before .before .pre .1 .0 .0, rw (due-many _ _ _ _ (c .before .before .before .before .before .before .before .before .before .before .before .before .before .before .pre .1 .0 .1), c .before .before .before .before .before .enum-told3 .given .1) (omega arith))
 
 grant-item-requires : tie.Need-grant-item-requires
-grant-item-requires c κs = (c .before .before .before .before .before .before .before .before .before .before .before .before .before .before .before .pre .0 .0, c .before .before .before .before .before .before .before .before .before .before .before .before .before .before .before .pre .0 .1, space-one _ _ (c .before .before .before .before .before .before .before .before .before .before .before .before .before .before .before .pre .1 .1))
+grant-item-requires c κs = let pre = c .before .before .before .before .before .before .before .before .before .before .before .before .before .before .before .pre in (pre .0 .0, pre .0 .1, pre .0 .2, space-one _ _ (pre .1 .1))
 
 enum-told-4 : tie.Need-enum-told-4
 enum-told-4 c = search needs
 
 grant-items-requires : tie.Need-grant-items-requires
-grant-items-requires c κs = (c .before .before .before .before .before .before .before .before .before .before .before .before .before .pre .0 .0, c .before .before .before .before .before .before .before .before .before .before .before .before .before .pre .0 .1, listed _ _ _ _ (c .before .before .before .before .enum-told4 .given .1) (c .before .before .before .before .before .before .before .before .before .before .before .before .before .pre .1 .0 .1) (c .before .before .before .before .before .before .before .before .before .before .before .before .before .pre .1 .0 .0), space-all _ _ (c .before .before .before .before .before .before .before .before .before .before .before .before .before .pre .1 .1))
+grant-items-requires c κs =
+    let pre = c .before .before .before .before .before .before .before .before .before .before .before .before .before .pre in
+    (pre .0 .0, pre .0 .1, pre .0 .2, listed _ _ _ _ (c .before .before .before .before .enum-told4 .given .1) (pre .1 .0 .1) (pre .1 .0 .0), space-all _ _ (pre .1 .1))
 
 returns : tie.Need-returns
 returns c = λ known k. sent-inherited _ _ _ known (c .before .enum-told .given .1) (c .done .ensures)

@@ -27,7 +27,9 @@ slice-aggregate-send-at : tie.Need-slice-aggregate-send-at
 slice-aggregate-send-at c = sym (length-take-le _ _ (settled-stands (c .before .before .before .before .before .before .before .before .settle .ensures) (c .before .before .before .before .state .given .1) .room))
 
 send-at-requires : tie.Need-send-at-requires
-send-at-requires c κs = ask-sendable (c .before .before .before .before .before .before .before .before .settle .ensures) (c .before .before .before .before .state .given .1) (c .before .before .before .before .before .before .before .before .before .before .before .before .before .before .before .before .before .pre .0) (c .before .before .before .before .before .before .before .before .before .before .before .before .before .before .before .before .before .pre .2)
+send-at-requires c κs =
+    let pre = c .before .before .before .before .before .before .before .before .before .before .before .before .before .before .before .before .before .pre in
+    ask-sendable (c .before .before .before .before .before .before .before .before .settle .ensures) (c .before .before .before .before .state .given .1) (pre .0) (pre .2) (pre .3)
 
 array-share-prefix-resolved-2 : tie.Need-array-share-prefix-resolved-2
 array-share-prefix-resolved-2 c = settled-stands (c .before .before .before .before .before .before .before .before .before .before .before .before .settle .ensures) (c .before .before .before .before .before .before .before .before .state .given .1) .room

@@ -20,14 +20,14 @@ use Rattle.link.proofs.granting.grant_items.Statement.{statement}
 use Rattle.link.proofs.granting.grant_items.Tie as tie
 
 abbrev Inv-loop : tie.InvT-loop
-Inv-loop parent₀ child₀ number₀ words₀ bytes ends responses cwd asked₀ at₀ from₀ i₀ parent child number words asked at from i =
-    GoingSent cwd bytes ends responses parent₀ child₀ number₀ words₀ parent child number words asked at from i
+Inv-loop parent₀ child₀ run number₀ words₀ bytes ends responses cwd asked₀ at₀ from₀ i₀ parent child number words asked at from i =
+    GoingSent cwd bytes ends responses parent₀ child₀ run number₀ words₀ parent child number words asked at from i
 
 abbrev μ-loop : tie.MeasureT-loop
-μ-loop parent₀ child₀ number₀ words₀ bytes ends responses cwd asked₀ at₀ from₀ i₀ parent child number words asked at from i = length ends - i
+μ-loop parent₀ child₀ run number₀ words₀ bytes ends responses cwd asked₀ at₀ from₀ i₀ parent child number words asked at from i = length ends - i
 
 loop-holds : tie.Need-loop-holds Inv-loop μ-loop
-loop-holds c = sent-start _ _ _ _ _ _ _ _ (c .before .before .before .before .before .before .before .pre .0) (c .before .before .before .before .before .before .before .pre .1) (c .before .before .before .before .before .before .before .pre .2 .closes) (c .before .before .before .before .before .before .before .pre .3)
+loop-holds c = let pre = c .before .before .before .before .before .before .before .pre in sent-start _ _ _ _ _ _ _ _ _ (pre .0) (pre .1) (pre .3 .closes) (pre .4)
 
 mul-end : tie.Need-mul-end Inv-loop μ-loop
 mul-end c = search needs
@@ -48,19 +48,20 @@ part-grant-item-end : tie.Need-part-grant-item-end Inv-loop μ-loop
 part-grant-item-end c = let lies = closing-next _ _ _ _ (c .before .before .before .before .before .loop-test .taken) (c .before .before .before .before .before .before .loop .inv .items .closes) in omega arith
 
 response-at-requires : tie.Need-response-at-requires Inv-loop μ-loop
-response-at-requires c κs = (c .before .before .before .before .before .before .before .before .before .before .before .before .before .before .before .pre .2 .known, omega (arith, c .before .before .before .before .before .before .before .before .before .before .before .before .before .before .before .pre .2 .many))
+response-at-requires c κs = let listed = c .before .before .before .before .before .before .before .before .before .before .before .before .before .before .before .pre .3 in (listed .known, omega (arith, listed .many))
 
 grant-item-requires : tie.Need-grant-item-requires Inv-loop μ-loop
 grant-item-requires c κs =
     let at = c .before .before .before .before .before .before .before .before in
-    (at .loop .inv .items .parent, at .loop .inv .items .child, sent-room (at .loop .inv) (c .before .before .before .before .before .before .before .loop-test .taken) (omega (arith, at .before .before .before .before .before .before .before .before .pre .2 .many)) (c .response-at .ensures) refl)
+    let pre = at .before .before .before .before .before .before .before .before .pre in
+    (at .loop .inv .items .parent, at .loop .inv .items .child, pre .2, sent-room (at .loop .inv) (c .before .before .before .before .before .before .before .loop-test .taken) (omega (arith, pre .3 .many)) (c .response-at .ensures) refl)
 
 add-asked : tie.Need-add-asked Inv-loop μ-loop
 add-asked c =
     let granted = c .before .before .before .before .before .before .before .before in
     let turn = granted .before .before .before .before .before .before .before .before in
     let at = turn .before in
-    let listed = at .before .before .before .before .before .before .before .before .pre .2 in
+    let listed = at .before .before .before .before .before .before .before .before .pre .3 in
     omega (arith, at .loop .inv .items .few, listed .few, sent-once (at .loop .inv) (turn .loop-test .taken) (omega (arith, listed .many)) (granted .before .response-at .ensures) refl (granted .grant-item .ensures))
 
 enum-known-outcome : tie.Need-enum-known-outcome Inv-loop μ-loop
@@ -74,7 +75,7 @@ same-length c =
     let granted = c .before .before .before .before .before .before .before .before .before .before .before .before in
     let turn = granted .before .before .before .before .before .before .before .before in
     let at = turn .before in
-    let listed = at .before .before .before .before .before .before .before .before .pre .2 in
+    let listed = at .before .before .before .before .before .before .before .before .pre .3 in
     sent-parent (at .loop .inv) (turn .loop-test .taken) (omega (arith, listed .many)) (granted .before .response-at .ensures) refl (granted .grant-item .ensures)
 
 same-length-2 : tie.Need-same-length-2 Inv-loop μ-loop
@@ -82,7 +83,7 @@ same-length-2 c =
     let granted = c .before .before .before .before .before .before .before .before .before .before .before .before in
     let turn = granted .before .before .before .before .before .before .before .before in
     let at = turn .before in
-    let listed = at .before .before .before .before .before .before .before .before .pre .2 in
+    let listed = at .before .before .before .before .before .before .before .before .pre .3 in
     sent-child (at .loop .inv) (turn .loop-test .taken) (omega (arith, listed .many)) (granted .before .response-at .ensures) refl (granted .grant-item .ensures)
 
 same-length-3 : tie.Need-same-length-3 Inv-loop μ-loop
@@ -90,15 +91,15 @@ same-length-3 c =
     let granted = c .before .before .before .before .before .before .before .before .before .before .before .before in
     let turn = granted .before .before .before .before .before .before .before .before in
     let at = turn .before in
-    let listed = at .before .before .before .before .before .before .before .before .pre .2 in
-    granted .grant-item .kept .1 .1 .1 .0 ∙ at .loop .inv .same-words
+    let listed = at .before .before .before .before .before .before .before .before .pre .3 in
+    granted .grant-item .kept .1 .1 .1 .1 .0 ∙ at .loop .inv .same-words
 
 returns : tie.Need-returns Inv-loop μ-loop
 returns c =
     let granted = c .before .before .before .before .before .before .before .before .before .before .before .before in
     let turn = granted .before .before .before .before .before .before .before .before in
     let at = turn .before in
-    let listed = at .before .before .before .before .before .before .before .before .pre .2 in
+    let listed = at .before .before .before .before .before .before .before .before .pre .3 in
     sent-stops (at .loop .inv) (turn .loop-test .taken) (omega (arith, listed .many)) (granted .before .response-at .ensures) refl (granted .grant-item .ensures) (c .before .before .outcome .given .1) refl (c .refused .ensures)
 
 enum-told : tie.Need-enum-told Inv-loop μ-loop
@@ -108,7 +109,7 @@ add-i : tie.Need-add-i Inv-loop μ-loop
 add-i c =
     let granted = c .before .before .before .before .before .before .before .before .before .before in
     let turn = granted .before .before .before .before .before .before .before .before in
-    omega (arith, turn .loop-test .taken, turn .before .before .before .before .before .before .before .before .before .pre .2 .few)
+    omega (arith, turn .loop-test .taken, turn .before .before .before .before .before .before .before .before .before .pre .3 .few)
 
 loop-less : tie.Need-loop-less Inv-loop μ-loop
 loop-less c = search needs
@@ -118,8 +119,8 @@ loop-again c =
     let granted = c .before .before .before .before .before .before .before .before .before .before in
     let turn = granted .before .before .before .before .before .before .before .before in
     let at = turn .before in
-    let listed = at .before .before .before .before .before .before .before .before .pre .2 in
-    sent-next (at .loop .inv) (turn .loop-test .taken) (omega (arith, listed .many)) (granted .before .response-at .ensures) refl (granted .grant-item .ensures) (c .enum-told .given .1) refl (granted .grant-item .kept .1 .1 .1 .0)
+    let listed = at .before .before .before .before .before .before .before .before .pre .3 in
+    sent-next (at .loop .inv) (turn .loop-test .taken) (omega (arith, listed .many)) (granted .before .response-at .ensures) refl (granted .grant-item .ensures) (c .enum-told .given .1) refl (granted .grant-item .kept .1 .1 .1 .1 .0)
 
 done-requires : tie.Need-done-requires Inv-loop μ-loop
 done-requires c κs = search needs

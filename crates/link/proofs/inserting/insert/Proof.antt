@@ -1,18 +1,29 @@
 -- `insert` meets its contract.
-use mathlib.Core.Path.{sym, _∙_}
+use mathlib.Core.Path.{_≡_, sym, _∙_}
+use mathlib.Core.Bool.{true}
 use native.Mathlib.Omega.{arith}
 use borrow.Author.Tests.{not-true, not-false}
+use denote.Ref.{now}
 use lib.Seq.{length-take-le}
 use Rattle.paths.specs.Giving.{queryOf, isQuery}
 use Rattle.paths.proofs.GivingLaws.{gives-refused, gives-stands}
 use Rattle.table.specs.Tables.{isEntry}
 use Rattle.table.specs.Acts.{isAct}
-use Rattle.table.specs.Carrying.{actOf, fits}
-use Rattle.link.proofs.SendingLaws.{no-room, a-room, does-refuse, does-perform}
-use Rattle.table.proofs.CallLaws.{insert-no-table, insert-no-room, insert-unknown, insert-refused, insert-known}
+use Rattle.table.specs.Memory.{holds}
+use Rattle.table.specs.Carrying.{isRun, actOf, fits}
+use Rattle.link.proofs.SendingLaws.{no-room, no-run, a-room, does-refuse, does-perform}
+use Rattle.table.proofs.CallLaws.{insert-no-table, insert-unlinked, insert-unknown, insert-refused, insert-known}
 use borrow.Author.Needs.{needs}
 use Rattle.link.proofs.inserting.insert.Statement.{statement}
 use Rattle.link.proofs.inserting.insert.Tie as tie
+
+-- behind the first test, the table
+held : (c : tie.Else1) → holds (now (c .before .before .before .before .before .before .before .args .mem)) ≡ true
+held c = sym (c .before .holds-table .ensures) ∙ not-false _ (c .if1 .left)
+
+-- behind the third, the run
+known-run : (c : tie.Else3) → isRun (c .before .before .before .before .before .before .before .before .before .before .args .run) ≡ true
+known-run c = sym (c .before .is-run .ensures) ∙ not-false _ (c .if3 .left)
 
 holds-table-requires : tie.Need-holds-table-requires
 holds-table-requires c κs = search needs
@@ -33,7 +44,21 @@ same-length-2 : tie.Need-same-length-2
 same-length-2 c = search needs
 
 returns-2 : tie.Need-returns-2
-returns-2 c = does-refuse (insert-no-room _ _ _ _ _ (sym (c .before .before .before .holds-table .ensures) ∙ not-false _ (c .before .before .if1 .left)) (no-room _ _ (omega arith))) (c .refused2 .ensures)
+returns-2 c = does-refuse (insert-unlinked _ _ _ _ _ (held (c .before .before)) (no-room _ _ _ (omega arith))) (c .refused2 .ensures)
+
+is-run-requires : tie.Need-is-run-requires
+is-run-requires c κs = search needs
+
+refused-requires-3 : tie.Need-refused-requires-3
+refused-requires-3 c κs = search needs
+
+same-length-3 : tie.Need-same-length-3
+same-length-3 c = search needs
+
+returns-3 : tie.Need-returns-3
+returns-3 c =
+    let unknown = sym (c .before .before .is-run .ensures) ∙ not-true _ (c .before .if3 .taken) in
+    does-refuse (insert-unlinked _ _ _ _ _ (held (c .before .before .before .before)) (no-run _ _ _ (omega arith) unknown)) (c .refused3 .ensures)
 
 kind-of-requires : tie.Need-kind-of-requires
 kind-of-requires c κs = search needs
@@ -44,18 +69,17 @@ enum-known-known c = search needs
 enum-told : tie.Need-enum-told
 enum-told c = search needs
 
-refused-requires-3 : tie.Need-refused-requires-3
-refused-requires-3 c κs = search needs
+refused-requires-4 : tie.Need-refused-requires-4
+refused-requires-4 c κs = search needs
 
-same-length-3 : tie.Need-same-length-3
-same-length-3 c = search needs
+same-length-4 : tie.Need-same-length-4
+same-length-4 c = search needs
 
-returns-3 : tie.Need-returns-3
-returns-3 c =
-    let tested = c .before .before .before .before .before in
-    let held = sym (tested .before .holds-table .ensures) ∙ not-false _ (tested .if1 .left) in
+returns-4 : tie.Need-returns-4
+returns-4 c =
+    let tested = c .before .before .before .before in
     let unknown = sym (c .before .before .before .kind-of .ensures) ∙ c .before .enum-told .given .1 in
-    does-refuse (insert-unknown _ _ _ _ _ held (a-room _ _ (omega arith)) unknown) (c .refused3 .ensures)
+    does-refuse (insert-unknown _ _ _ _ _ (held (tested .before .before .before)) (a-room _ _ _ (omega arith) (known-run tested)) unknown) (c .refused4 .ensures)
 
 resolve-given-requires : tie.Need-resolve-given-requires
 resolve-given-requires c κs = search needs
@@ -63,8 +87,8 @@ resolve-given-requires c κs = search needs
 enum-known-cause : tie.Need-enum-known-cause
 enum-known-cause c = search needs
 
-refused-requires-4 : tie.Need-refused-requires-4
-refused-requires-4 c κs = search needs
+refused-requires-5 : tie.Need-refused-requires-5
+refused-requires-5 c κs = search needs
 
 enum-known-n : tie.Need-enum-known-n
 enum-known-n c = search needs
@@ -79,39 +103,36 @@ perform-requires : tie.Need-perform-requires
 unfolding actOf fits isAct isEntry queryOf isQuery
 perform-requires c κs =
     let found = c .before .before .before .before .before in
-    let tested = c .before .before .before .before .before .before .before .before .before .before .before .before .before .before in
-    let held = sym (tested .before .holds-table .ensures) ∙ not-false _ (tested .if1 .left) in
-    (held, (gives-stands (found .before .before .resolve-given .ensures) (found .n .given .1) .fits, omega arith))
-
-same-length-4 : tie.Need-same-length-4
-same-length-4 c = search needs
-
-returns-4 : tie.Need-returns-4
-returns-4 c =
-    let known = c .before .before .before .before .before .before .before in
-    let tested = known .before .before .before .before in
-    let held = sym (tested .before .holds-table .ensures) ∙ not-false _ (tested .if1 .left) in
-    let read = sym (known .before .before .kind-of .ensures) ∙ known .known .given .1 in
-    does-refuse
-    (insert-refused _ _ _ _ _ held (a-room _ _ (omega arith)) read (gives-refused (c .before .before .before .before .resolve-given .ensures) (c .before .before .cause .given .1)))
-    (c .refused4 .ensures)
+    let tested = c .before .before .before .before .before .before .before .before .before .before .before .before .before in
+    ((held (tested .before .before .before), known-run tested), (gives-stands (found .before .before .resolve-given .ensures) (found .n .given .1) .fits, omega arith))
 
 same-length-5 : tie.Need-same-length-5
 same-length-5 c = search needs
 
+returns-5 : tie.Need-returns-5
+returns-5 c =
+    let known = c .before .before .before .before .before .before .before in
+    let tested = known .before .before .before in
+    let read = sym (known .before .before .kind-of .ensures) ∙ known .known .given .1 in
+    does-refuse
+    (insert-refused _ _ _ _ _ (held (tested .before .before .before)) (a-room _ _ _ (omega arith) (known-run tested)) read (gives-refused (c .before .before .before .before .resolve-given .ensures) (c .before .before .cause .given .1)))
+    (c .refused5 .ensures)
+
 same-length-6 : tie.Need-same-length-6
 same-length-6 c = search needs
 
-returns-5 : tie.Need-returns-5
+same-length-7 : tie.Need-same-length-7
+same-length-7 c = search needs
+
+returns-6 : tie.Need-returns-6
 unfolding actOf
-returns-5 c =
+returns-6 c =
     let found = c .before .before .before .before .before .before .before .before .before .before in
     let known = found .before .before .before .before .before in
-    let tested = known .before .before .before .before in
-    let held = sym (tested .before .holds-table .ensures) ∙ not-false _ (tested .if1 .left) in
+    let tested = known .before .before .before in
     let read = sym (known .before .before .kind-of .ensures) ∙ known .known .given .1 in
     does-perform
-    (insert-known _ _ _ _ _ held (a-room _ _ (omega arith)) read _ (gives-stands (found .before .before .resolve-given .ensures) (found .n .given .1) .query))
+    (insert-known _ _ _ _ _ (held (tested .before .before .before)) (a-room _ _ _ (omega arith) (known-run tested)) read _ (gives-stands (found .before .before .resolve-given .ensures) (found .n .given .1) .query))
     (c .before .before .before .before .perform .ensures)
 
 pub insert-spec : {M : Type 1} → statement M
@@ -125,21 +146,25 @@ insert-spec =
     refused-requires-2
     same-length-2
     returns-2
-    kind-of-requires
-    enum-known-known
-    enum-told
+    is-run-requires
     refused-requires-3
     same-length-3
     returns-3
+    kind-of-requires
+    enum-known-known
+    enum-told
+    refused-requires-4
+    same-length-4
+    returns-4
     resolve-given-requires
     enum-known-cause
-    refused-requires-4
+    refused-requires-5
     enum-known-n
     array-share-prefix-space
     slice-aggregate-perform
     perform-requires
-    same-length-4
-    returns-4
     same-length-5
+    returns-5
     same-length-6
-    returns-5)
+    same-length-7
+    returns-6)

@@ -5,7 +5,7 @@ use Rattle.link.proofs.revoking.revoke_resolved.Statement.{statement}
 use Rattle.link.proofs.revoking.revoke_resolved.Tie as tie
 
 revoke-query-requires : tie.Need-revoke-query-requires
-revoke-query-requires c κs = (c .before .before .before .before .before .pre .0, c .before .before .before .before .before .pre .1 .0)
+revoke-query-requires c κs = (c .before .before .before .before .before .pre .0 .0, c .before .before .before .before .before .pre .1 .0)
 
 enum-known-answer : tie.Need-enum-known-answer
 enum-known-answer c = search needs
@@ -22,7 +22,7 @@ revoke-action-requires c κs = search needs
 send-at-requires : tie.Need-send-at-requires
 send-at-requires c κs =
     let pre = c .before .before .before .before .before .before .before .before .before .before .before .before .before .pre in
-    revoke-sendable _ _ (c .before .before .before .before .before .before .before .revoke-query .ensures) (c .before .before .before .enum-told .given .1) (c .revoke-action .ensures _) (pre .1 .0) (pre .1 .1)
+    revoke-sendable _ _ (c .before .before .before .before .before .before .before .revoke-query .ensures) (c .before .before .before .enum-told .given .1) (c .revoke-action .ensures _) (pre .0 .1) (pre .1 .0) (pre .1 .1)
 
 same-length : tie.Need-same-length
 same-length c = search needs

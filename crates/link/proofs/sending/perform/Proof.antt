@@ -6,7 +6,7 @@ use Rattle.link.proofs.sending.perform.Statement.{statement}
 use Rattle.link.proofs.sending.perform.Tie as tie
 
 carry-out-requires : tie.Need-carry-out-requires
-carry-out-requires c κs = (c .before .before .before .before .before .pre .0, c .before .before .before .before .before .pre .1 .0)
+carry-out-requires c κs = (c .before .before .before .before .before .pre .0 .0, c .before .before .before .before .before .pre .1 .0)
 
 enum-known-cause : tie.Need-enum-known-cause
 enum-known-cause c = search needs
@@ -19,6 +19,7 @@ send-at-requires c κs =
     let pre = c .before .before .before .before .before .before .before .before .before .before .before .before .pre in
     record {
       fitting = pre .1 .0;
+      known = pre .0 .1;
       room = pre .1 .1;
       left = left-number _ _ _ (carried-done (c .before .before .before .before .before .before .carry-out .ensures) (c .before .before .enum-told .given .1));
     }

@@ -1,8 +1,8 @@
--- `write_with_switches` meets its contract: its two stores are one run of words.
+-- `write_with_switches` meets its contract: its three stores are one sequence of words.
 use mathlib.Core.Path.{refl}
 use native.Mathlib.Omega.{arith}
 use lib.ListN.{length-set}
-use Rattle.records.proofs.WritingLaws.{two-stores}
+use Rattle.records.proofs.WritingLaws.{three-stores}
 use borrow.Author.Needs.{needs}
 use Rattle.records.proofs.writing.write_with_switches.Statement.{statement}
 use Rattle.records.proofs.writing.write_with_switches.Tie as tie
@@ -13,9 +13,6 @@ mul-words c = search needs
 slice-write-words : tie.Need-slice-write-words
 slice-write-words c = search needs
 
-word-of-requires : tie.Need-word-of-requires
-word-of-requires c κs = search needs
-
 add-words : tie.Need-add-words
 add-words c = search needs
 
@@ -25,6 +22,18 @@ mul-words-2 c = search needs
 slice-write-words-2 : tie.Need-slice-write-words-2
 slice-write-words-2 c = simp length-set (omega arith)
 
+word-of-requires : tie.Need-word-of-requires
+word-of-requires c κs = search needs
+
+add-words-2 : tie.Need-add-words-2
+add-words-2 c = search needs
+
+mul-words-3 : tie.Need-mul-words-3
+mul-words-3 c = search needs
+
+slice-write-words-3 : tie.Need-slice-write-words-3
+slice-write-words-3 c = simp length-set (omega arith)
+
 add-result : tie.Need-add-result
 add-result c = search needs
 
@@ -32,7 +41,7 @@ same-length : tie.Need-same-length
 same-length c = search needs
 
 returns : tie.Need-returns
-returns c = record { content = rw (← c .word-of .ensures) (two-stores _ _ _ _ (omega arith)); end = refl }
+returns c = record { content = rw (← c .word-of .ensures) (three-stores _ _ _ _ _ (omega arith)); end = refl }
 
 pub write-with-switches-spec : {M : Type 1} → statement M
 write-with-switches-spec =
@@ -40,10 +49,13 @@ write-with-switches-spec =
     (tie.spec
     mul-words
     slice-write-words
-    word-of-requires
     add-words
     mul-words-2
     slice-write-words-2
+    word-of-requires
+    add-words-2
+    mul-words-3
+    slice-write-words-3
     add-result
     same-length
     returns)

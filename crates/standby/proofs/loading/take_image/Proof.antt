@@ -1,7 +1,6 @@
 -- `take_image` meets its contract: the first cause is found, or the image that was read is taken or is a repeat.
 use mathlib.Core.Path.{_≡_, sym, _∙_}
-use mathlib.Core.Bool.{true}
-use native.Mathlib.Omega.{arith}
+use mathlib.Core.Bool.{true, false}
 use denote.Ref.{now}
 use borrow.Author.Needs.{needs}
 use borrow.Author.Tests.{not-true, not-false}
@@ -9,7 +8,9 @@ use Rattle.table.specs.Memory.{holds}
 use Rattle.table.proofs.Puts.{long-of}
 use Rattle.images.specs.Images.{readImage}
 use Rattle.images.proofs.ReadingLaws.{no-image-told, ImageTold, image-told}
-use Rattle.standby.proofs.LoadingLaws.{loading-no-table, loading-above, loading-malformed, brings-refused, loads-repeat, loads-taken}
+use Rattle.standby.specs.Arriving.{conflict}
+use Rattle.standby.proofs.ArrivingLaws.{comes-refused}
+use Rattle.standby.proofs.LoadingLaws.{loading-no-table, loading-conflict, loading-malformed, loads-repeat, loads-taken}
 use Rattle.standby.proofs.loading.take_image.Statement.{statement}
 use Rattle.standby.proofs.loading.take_image.Tie as tie
 
@@ -17,9 +18,13 @@ use Rattle.standby.proofs.loading.take_image.Tie as tie
 held : (c : tie.Else1) → holds (now (c .before .before .before .before .before .args .mem)) ≡ true
 held c = sym (c .before .holds-table .ensures) ∙ not-false _ (c .if1 .left)
 
+-- and the numbers agree
+agreed : (c : tie.Else2) → conflict (c .before .before .before .before .before .before .before .args .numbers) ≡ false
+agreed c = sym (c .before .in-conflict .ensures) ∙ c .if2 .left
+
 -- an image was read
-image : (c : tie.After-number) → ImageTold (readImage (now (c .before .before .before .before .before .before .before .before .before .before .args .words))) (c .number .given .0 .0) (c .number .given .0 .1 .0) (c .number .given .0 .1 .1 .0) (c .number .given .0 .1 .1 .1 .0)
-image c = image-told _ (sym (c .number .given .1) ∙ c .before .before .read-image .ensures)
+image : (c : tie.After-run) → ImageTold (readImage (now (c .before .before .before .before .before .before .before .before .before .before .args .words))) (c .run .given .0 .0) (c .run .given .0 .1 .0) (c .run .given .0 .1 .1 .0) (c .run .given .0 .1 .1 .1 .0) (c .run .given .0 .1 .1 .1 .1 .0)
+image c = image-told _ (sym (c .run .given .1) ∙ c .before .before .read-image .ensures)
 
 holds-table-requires : tie.Need-holds-table-requires
 holds-table-requires c κs = search needs
@@ -33,7 +38,10 @@ same-length c = search needs
 returns : tie.Need-returns
 returns c =
     let test = c .before in
-    brings-refused (loading-no-table _ _ _ (sym (test .before .holds-table .ensures) ∙ not-true _ (test .if1 .taken))) (c .refused .ensures)
+    comes-refused (loading-no-table _ _ _ (sym (test .before .holds-table .ensures) ∙ not-true _ (test .if1 .taken))) (c .refused .ensures)
+
+in-conflict-requires : tie.Need-in-conflict-requires
+in-conflict-requires c κs = search needs
 
 refused-requires-2 : tie.Need-refused-requires-2
 refused-requires-2 c κs = search needs
@@ -42,7 +50,9 @@ same-length-2 : tie.Need-same-length-2
 same-length-2 c = search needs
 
 returns-2 : tie.Need-returns-2
-returns-2 c = brings-refused (loading-above _ _ _ (held (c .before .before .before)) (omega arith)) (c .refused2 .ensures)
+returns-2 c =
+    let test = c .before in
+    comes-refused (loading-conflict _ _ _ (held (test .before .before)) (sym (test .before .in-conflict .ensures) ∙ test .if2 .taken)) (c .refused2 .ensures)
 
 read-image-requires : tie.Need-read-image-requires
 read-image-requires c κs = search needs
@@ -53,24 +63,29 @@ enum-told c = search needs
 refused-requires-3 : tie.Need-refused-requires-3
 refused-requires-3 c κs = search needs
 
-enum-known-number : tie.Need-enum-known-number
-enum-known-number c = search needs
+enum-known-run : tie.Need-enum-known-run
+enum-known-run c = search needs
+
+meet-requires : tie.Need-meet-requires
+meet-requires c κs = search needs
+
+is-taken-requires : tie.Need-is-taken-requires
+is-taken-requires c κs = search needs
 
 same-length-3 : tie.Need-same-length-3
 same-length-3 c = search needs
 
 returns-3 : tie.Need-returns-3
 returns-3 c =
-    let found = c .before .before .before in
-    loads-repeat _ _ (held (found .before .before .before .before .before)) (omega arith) (image found) (omega arith)
+    let met = c .before .before in
+    let found = met .before .before in
+    let ends = found .before .before .before in
+    loads-repeat _ _ _ (held (ends .before .before)) (agreed ends) (image found) (met .meet .ensures) (sym (c .before .is-taken .ensures) ∙ not-true _ (c .if3 .taken))
 
 load-table-requires : tie.Need-load-table-requires
 load-table-requires c κs =
-    let found = c .before .before .before .before in
+    let found = c .before .before .before .before .before in
     (image found .read, long-of _ (held (found .before .before .before .before .before)))
-
-higher-of-requires : tie.Need-higher-of-requires
-higher-of-requires c κs = search needs
 
 same-length-4 : tie.Need-same-length-4
 same-length-4 c = search needs
@@ -79,16 +94,20 @@ returns-4 : tie.Need-returns-4
 returns-4 c =
     let read = c .before .before .before in
     let malformed = no-image-told _ (sym (c .before .enum-told .given .1) ∙ read .read-image .ensures) in
-    brings-refused (loading-malformed _ _ _ (held (read .before .before .before)) (omega arith) malformed) (c .refused3 .ensures)
+    comes-refused (loading-malformed _ _ _ (held (read .before .before .before)) (agreed (read .before)) malformed) (c .refused3 .ensures)
 
 same-length-5 : tie.Need-same-length-5
 same-length-5 c = search needs
 
 returns-5 : tie.Need-returns-5
 returns-5 c =
-    let load = c .before .before .before in
-    let found = load .before .before .before .before .before in
-    loads-taken _ _ (held (found .before .before .before .before .before)) (omega arith) (image found) (omega arith) (load .load-table .ensures) (c .higher-of .ensures)
+    let load = c .before .before in
+    let test = load .before .before in
+    let met = test .before .before in
+    let found = met .before .before in
+    let ends = found .before .before .before in
+    loads-taken _ _ _ (held (ends .before .before)) (agreed ends) (image found) (met .meet .ensures) (sym (test .before .is-taken .ensures) ∙ not-false _ (test .if3 .left))
+    (load .load-table .ensures)
 
 pub take-image-spec : {M : Type 1} → statement M
 take-image-spec =
@@ -98,17 +117,19 @@ take-image-spec =
     refused-requires
     same-length
     returns
+    in-conflict-requires
     refused-requires-2
     same-length-2
     returns-2
     read-image-requires
     enum-told
     refused-requires-3
-    enum-known-number
+    enum-known-run
+    meet-requires
+    is-taken-requires
     same-length-3
     returns-3
     load-table-requires
-    higher-of-requires
     same-length-4
     returns-4
     same-length-5

@@ -1,5 +1,5 @@
-// Times query, check and request: Rattle's static library, whole calls with the
-// memory test and resolving, beside the Rust's own functions on a resolved
+// Times query, check, request and insert: Rattle's static library, whole calls with
+// the memory test and resolving, beside the Rust's own functions on a resolved
 // descriptor; and linked check and request beside the plain ones. Both sides have
 // the same tables and paths, in one run. A scan, which reads each byte of a table
 // once and does nothing else, is the limit. bench/run builds and runs it.
@@ -7,8 +7,8 @@
 //   calls CALL                              a table of times and ratios
 //   calls CALL SIDE ENTRIES CASE REPEATS    only runs one side's calls, for counting instructions
 //
-// The sides of query, check and request are rust and rattle, those of linked-check
-// and linked-request plain and linked, those of scan bytes and blocks.
+// The sides of query, check, request and insert are rust and rattle, those of
+// linked-check and linked-request plain and linked, those of scan bytes and blocks.
 
 use std::hint::black_box;
 use std::time::Instant;
@@ -43,6 +43,12 @@ mod read {
 
         pub fn request(table: &mut Table, asked: &Asked) -> i32 {
             i32::from(table.request(Some(&asked.0)) as u8)
+        }
+
+        // An insert takes a descriptor of its own.
+        pub fn insert(table: &mut Table, asked: &Asked) -> i32 {
+            table.descriptors.insert(UnaryPermissionDesc::Granted(asked.0.as_allow().expect("a descriptor")));
+            0
         }
     }
 }
@@ -113,6 +119,10 @@ impl Memory {
                 self.table.as_mut_ptr(), self.table.len(), kind, path.as_ptr(), path.len(), cwd.as_ptr(), cwd.len(),
             )
         }
+    }
+
+    fn insert_granted(&mut self, path: &str) -> i32 {
+        self.insert(0, path)
     }
 
     // From here on the operator is asked, and allows.
@@ -259,6 +269,12 @@ fn case(name: &str, count: usize) -> Case {
             let path = entries[0].1.replace("/000", "");
             Case { entries, paths: vec![path], is_asked: false }
         }
+        // the entries of the worst case, and one of them again: an insert compares some of them to the last component
+        "present" => {
+            let entries = worst(count);
+            let path = entries[count / 2].1.clone();
+            Case { entries, paths: vec![path], is_asked: false }
+        }
         // the paths lie below no entry, and the operator is asked about each
         "asked" => {
             let entries = realistic(count);
@@ -318,6 +334,13 @@ impl Side {
         }
     }
 
+    fn entries(&self) -> usize {
+        match self {
+            Side::Rust { table, .. } => read::calls::show(table).entries.len(),
+            Side::Rattle { memory, .. } => usize::from(memory.table[0]) * 256 + usize::from(memory.table[1]),
+        }
+    }
+
     fn run(&mut self, repeats: usize) {
         match self {
             Side::Rust { table, asked, call } => {
@@ -356,13 +379,14 @@ fn least(sides: &mut [Side; 2]) -> [f64; 2] {
     least
 }
 
-// Both sides of a call with the case's table. Each path is asked about once: the answers must be equal, and a request
-// has then inserted what it inserts, so that later ones find the table as it stays.
+// Both sides of a call with the case's table. Each path is asked about once: the answers must be equal, and a request or
+// an insert has then inserted what it inserts, so that later ones find the table as it stays.
 fn sides(name: &str, case: &Case) -> [Side; 2] {
     let mut sides = match name {
         "query" => [rust_side(case, read::measured::query), rattle_side(case, Memory::query)],
         "check" => [rust_side(case, read::measured::check), rattle_side(case, Memory::check)],
         "request" => [rust_side(case, read::measured::request), rattle_side(case, Memory::request)],
+        "insert" => [rust_side(case, read::measured::insert), rattle_side(case, Memory::insert_granted)],
         "linked-check" => [rattle_side(case, Memory::check), rattle_side(case, Memory::linked_check)],
         "linked-request" => [rattle_side(case, Memory::request), rattle_side(case, Memory::linked_request)],
         "scan" => return [scan_side(case, Memory::scan_bytes), scan_side(case, Memory::scan_blocks)],
@@ -370,6 +394,11 @@ fn sides(name: &str, case: &Case) -> [Side; 2] {
     };
     let [first, second] = &mut sides;
     assert_eq!(first.answers(), second.answers());
+    if name == "insert" {
+        let sizes = [first.entries(), second.entries()];
+        assert_eq!(first.answers(), second.answers());
+        assert_eq!(sizes, [first.entries(), second.entries()], "an insert that is made again adds an entry");
+    }
     if let (true, Side::Rattle { memory, .. }) = (case.is_asked, second) {
         assert_ne!(memory.records[0], 0, "no record is written");
     }
@@ -402,6 +431,7 @@ fn main() {
     println!("|---|---|---|---|---|");
     let cases: &[&str] = match plain {
         None if name == "scan" => &["realistic", "worst"],
+        None if name == "insert" => &["realistic", "present"],
         None => &["realistic", "worst", "below"],
         Some(_) => &["realistic", "worst", "asked", "longest"],
     };

@@ -53,9 +53,9 @@ extern "C" {
 #endif
 
 #define PERMISSIONS_VERSION_MAJOR 0
-#define PERMISSIONS_VERSION_MINOR 7
+#define PERMISSIONS_VERSION_MINOR 8
 #define PERMISSIONS_VERSION_PATCH 0
-#define PERMISSIONS_VERSION "0.7.0"
+#define PERMISSIONS_VERSION "0.8.0"
 
 /* The compiler warns where the result of a call is dropped, if it can. */
 #if defined(__GNUC__)
@@ -126,6 +126,15 @@ enum permissions_state {
     PERMISSIONS_STATE_DENIED = 3,
     PERMISSIONS_STATE_DENIED_PARTIAL = 4,
     PERMISSIONS_STATE_IGNORED = 5
+};
+
+/* How a path relates to another, by whole components. EQUAL, PREFIX and LESS put it first in path order, or at the same place. */
+enum permissions_relation {
+    PERMISSIONS_RELATION_EQUAL = 0,
+    PERMISSIONS_RELATION_PREFIX = 1,    /* it is a prefix of the other, and not equal */
+    PERMISSIONS_RELATION_EXTENSION = 2, /* the other is a prefix of it, and not equal */
+    PERMISSIONS_RELATION_LESS = 3,      /* neither, and it is before the other in path order */
+    PERMISSIONS_RELATION_GREATER = 4    /* neither, and it is behind the other in path order */
 };
 
 /* The operator's answer. */
@@ -354,6 +363,26 @@ int32_t permissions_child(void *parent, size_t parent_size,
                           const uint32_t *answers, size_t answers_count,
                           const void *directory, size_t directory_size,
                           uint32_t *asked);
+
+/* ---- how two paths relate ---- */
+
+/* Compares two paths, component by component and, inside a component, byte by byte. No table is lent.
+ *   first, first_size          a path, as given
+ *   second, second_size        another, as given
+ *   directory, directory_size  the working directory of both; looked at only if a path is relative
+ *   common                     how many leading components below the root both share: 0 for "/a" and "/b", 1 for "/a/b" and
+ *                              "/a/bc", at most 512; 0 if the call is refused
+ * Result: how the first relates to the second (enum permissions_relation); refusals 4 to 7, of the first path and then of
+ * the second.
+ *
+ * So entries are shown as a tree: their paths in path order (EQUAL, PREFIX or LESS: the first goes first), and of each path
+ * only the components behind those that it shares with the path before. A branch then stands together: what lies between
+ * two paths in path order shares with each at least what these two share (proved). examples/tree.c does this. */
+PERMISSIONS_MUST_USE
+int32_t permissions_common(const void *first, size_t first_size,
+                           const void *second, size_t second_size,
+                           const void *directory, size_t directory_size,
+                           size_t *common);
 
 /* ---- a permission without a path ----
  *
@@ -769,6 +798,19 @@ static inline const char *permissions_kind_name(uint32_t kind)
     case PERMISSIONS_KIND_FLAG_DENIED: return "flag-denied";
     case PERMISSIONS_KIND_PROMPT_DENIED: return "prompt-denied";
     case PERMISSIONS_KIND_FLAG_IGNORED: return "flag-ignored";
+    default: return "unknown";
+    }
+}
+
+/* The name of how two paths relate, or "unknown". */
+static inline const char *permissions_relation_name(int32_t relation)
+{
+    switch (relation) {
+    case PERMISSIONS_RELATION_EQUAL: return "Equal";
+    case PERMISSIONS_RELATION_PREFIX: return "Prefix";
+    case PERMISSIONS_RELATION_EXTENSION: return "Extension";
+    case PERMISSIONS_RELATION_LESS: return "Less";
+    case PERMISSIONS_RELATION_GREATER: return "Greater";
     default: return "unknown";
     }
 }

@@ -572,6 +572,98 @@ static void a_full_table(void)
     check("/entry255", "/", PERMISSIONS_ANSWER_ALLOW);
 }
 
+/* How the first path relates to the second, and how many components they share. */
+static void relate(const char *first, size_t first_size, const char *second, size_t second_size, const char *directory)
+{
+    size_t common = 99;
+    int32_t result = permissions_common(first, first_size, second, second_size, directory,
+                                        directory == NULL ? 0 : strlen(directory), &common);
+
+    if (result < 0)
+        printf("refused %d, %s", (int)-result, permissions_refusal_name(result));
+    else
+        printf("%s", permissions_relation_name(result));
+    printf(", %u shared\n", (unsigned)common);
+}
+
+static void relate_texts(const char *first, const char *second, const char *directory)
+{
+    printf("%s and %s in %s: ", first, second, directory == NULL ? "no directory" : directory);
+    relate(first, strlen(first), second, strlen(second), directory);
+}
+
+/* Each relation, then paths that must be resolved first. */
+static void two_paths(void)
+{
+    int32_t relation;
+
+    puts("-- two paths");
+    relate_texts("/a/b", "/a/b", NULL);
+    relate_texts("/a", "/a/b", NULL);
+    relate_texts("/a/b/c", "/a", NULL);
+    relate_texts("/a/b", "/a/bc", NULL);
+    relate_texts("/b", "/a", NULL);
+    relate_texts("/", "/", NULL);
+    relate_texts("/", "/a/b", NULL);
+    relate_texts("/a/b", "/", NULL);
+    relate_texts("/a/b", "/a-b", NULL); /* by components: 'a' is less than 'a-b' */
+    relate_texts("/plant/hours/unit1", "/plant/setpoints", NULL);
+    relate_texts("//a/./b/", "/c/../a/b", NULL);
+    relate_texts("/..", "/", NULL);
+    relate_texts("hours", "/plant/hours", "/plant");
+    relate_texts("/plant", "hours/unit1", "/plant/");
+    relate_texts("./c/../b", "b/c", "/a");
+    relate_texts("../../..", "..", "/a/b");
+    relate_texts("/a", "/b", "no/directory"); /* not looked at */
+    printf("a zero byte: ");
+    relate("/a\0b", 4, "/a\0c", 4, NULL);
+    printf("a byte above 0x7F: ");
+    relate("/a\xFF", 3, "/ab", 3, NULL);
+    for (relation = -1; relation <= 5; relation++)
+        printf("%s%s", permissions_relation_name(relation), relation < 5 ? ", " : "\n");
+}
+
+/* The first path's cause comes before the second's, and nothing is shared then. */
+static void two_paths_refused(void)
+{
+    static char deep[PERMISSIONS_MAX_PATH_BYTES + 1], directory[PERMISSIONS_MAX_PATH_BYTES];
+    size_t i;
+
+    puts("-- two paths, refused");
+    for (i = 0; i < sizeof deep; i++)
+        deep[i] = i % 2 == 0 ? '/' : 'a';
+    memset(directory, 'd', sizeof directory - 1); /* 1,023 bytes */
+    directory[0] = '/';
+    relate_texts("", "/a", NULL);
+    relate_texts("/a", "", NULL);
+    relate_texts("a", "/a", NULL);
+    relate_texts("/a", "a", NULL);
+    relate_texts("a", "/a", "a");
+    relate_texts("/a", "a", "a");
+    relate_texts("a", "", NULL);
+    relate_texts("", "a", NULL);
+    printf("no bytes at all: ");
+    relate(NULL, 0, NULL, 0, NULL);
+    printf("1,024 bytes: ");
+    relate(deep, sizeof deep - 1, deep, sizeof deep - 1, NULL);
+    printf("1,025 bytes and 1,024: ");
+    relate(deep, sizeof deep, deep, sizeof deep - 1, NULL);
+    printf("1,024 bytes and 1,025: ");
+    relate(deep, sizeof deep - 1, deep, sizeof deep, NULL);
+    printf("1,025 bytes and none: ");
+    relate(deep, sizeof deep, NULL, 0, NULL);
+    printf("none and 1,025 bytes: ");
+    relate(NULL, 0, deep, sizeof deep, NULL);
+    printf("resolved of 1,025 bytes and /: ");
+    relate("a", 1, "/", 1, directory);
+    printf("/ and resolved of 1,025 bytes: ");
+    relate("/", 1, "a", 1, directory);
+    printf("resolved of 1,025 bytes and 1,025 bytes: ");
+    relate("a", 1, deep, sizeof deep, directory);
+    printf("resolved of 1,023 bytes and 1,025 bytes: ");
+    relate(".", 1, deep, sizeof deep, directory);
+}
+
 static void show_unit(const char *what, int32_t result, uint32_t state)
 {
     if (result < 0)
@@ -634,6 +726,8 @@ int main(void)
     an_image();
     saving();
     a_full_table();
+    two_paths();
+    two_paths_refused();
     a_permission_without_a_path();
     return 0;
 }

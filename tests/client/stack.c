@@ -14,6 +14,7 @@ static unsigned char stack[STACK];
 static ucontext_t outside, inside;
 static unsigned char table[PERMISSIONS_TABLE_BYTES], child[PERMISSIONS_TABLE_BYTES];
 static char text[PERMISSIONS_TEXT_BYTES], relative[PERMISSIONS_MAX_PATH_BYTES], directory[PERMISSIONS_MAX_PATH_BYTES];
+static char climbing[PERMISSIONS_MAX_PATH_BYTES]; /* a relative path that just fits, in the whole directory */
 static size_t relative_size;
 static uint32_t number, more, last, modem, records[2 * PERMISSIONS_RECORD_WORDS], image[PERMISSIONS_IMAGE_WORDS];
 static size_t size, start, words, image_words;
@@ -99,6 +100,10 @@ static void linked_child(void)
     result = permissions_linked_child(table, sizeof table, 1, &change, child, sizeof child, 3, relative, relative_size, ends, 2,
                                       answers, 2, directory, 500, records, 2 * PERMISSIONS_RECORD_WORDS, &number, &words);
 }
+static void common(void)
+{
+    result = permissions_common(climbing, sizeof climbing, climbing, sizeof climbing, directory, sizeof directory, &size);
+}
 static void begin_run(void) { result = permissions_begin_run(child, sizeof child, 2, &change); }
 static void arrive(void) { result = permissions_standby_arrive(child, sizeof child, &standby, records, words); }
 static void arrive_higher(void)
@@ -127,9 +132,9 @@ static const struct {
     void (*call)(void);
 } calls[] = {{"fresh", fresh}, {"insert", insert}, {"switches", switches}, {"query", query}, {"query_all", query_all},
              {"check_asks", check_asks}, {"check", check}, {"check_all", check_all}, {"request", request}, {"revoke", revoke},
-             {"child, a list", make_child}, {"child, inherited", inherit}, {"used", used}, {"head", head}, {"entry", entry},
-             {"linked_insert", linked_insert}, {"linked_switches", linked_switches}, {"linked_check", linked_check},
-             {"linked_check_all", linked_check_all}, {"linked_request", linked_request},
+             {"child, a list", make_child}, {"child, inherited", inherit}, {"common", common}, {"used", used}, {"head", head},
+             {"entry", entry}, {"linked_insert", linked_insert}, {"linked_switches", linked_switches},
+             {"linked_check", linked_check}, {"linked_check_all", linked_check_all}, {"linked_request", linked_request},
              {"linked_request_all", linked_request_all}, {"linked_revoke", linked_revoke},
              {"linked_revoke_all", linked_revoke_all}, {"linked_child", linked_child}, {"begin_run", begin_run},
              {"arrive", arrive}, {"arrive, a new run", arrive_higher}, {"owed", say_owed},
@@ -171,6 +176,12 @@ static void fill(void)
     relative_size = 500;
     for (i = 7; i < (int)relative_size; i += 9)
         relative[i] = '/';
+    /* up by 80 of the directory's 103 components, and 784 bytes down: 1,015 bytes when resolved */
+    memset(climbing, 'c', sizeof climbing);
+    for (i = 0; i < 80; i++)
+        memcpy(climbing + 3 * i, "../", 3);
+    for (i = 241; i < (int)sizeof climbing - 1; i += 2)
+        climbing[i] = '/';
     /* change 1 of run 1, an insert of a long path, for a standby of that run with the same entries */
     memcpy(child, table, sizeof child);
     change = standby.last = standby.highest = 0;

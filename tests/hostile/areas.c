@@ -23,6 +23,7 @@ struct area areas[AREAS] = {
     [HIGHEST_RUN] = {.name = "highest run", .room = sizeof(uint32_t)},
     [STATE] = {.name = "state", .room = sizeof(uint32_t)},
     [PATH] = {.name = "path", .room = LONGEST_PATH},
+    [OTHER_PATH] = {.name = "second path", .room = LONGEST_PATH},
     [DIRECTORY] = {.name = "directory", .room = LONGEST_PATH},
     [ITEMS] = {.name = "items", .room = 80 * LONGEST_PATH},
     [ENDS] = {.name = "ends", .room = 80 * sizeof(uint32_t)},

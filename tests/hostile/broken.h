@@ -1,7 +1,7 @@
 /* Faults that a build with -DBREAK puts into what a call did, one at a time, by a third argument: hostile CALLS SEED FAULT.
- * From FIRST_WITHOUT_MODEL to LAST_WITHOUT_MODEL, from IMAGE_WITHOUT_MODEL to LAST_IMAGE_WITHOUT_MODEL, and from
- * RUN_WITHOUT_MODEL on, nothing is held against the model, so that what calls say of each other must notice the fault.
- * tests/hostile-test sees that each up to LAST_FAULT is noticed. */
+ * From FIRST_WITHOUT_MODEL to LAST_WITHOUT_MODEL, from IMAGE_WITHOUT_MODEL to LAST_IMAGE_WITHOUT_MODEL, from RUN_WITHOUT_MODEL
+ * to LAST_RUN_WITHOUT_MODEL, and from COMMON_WITHOUT_MODEL on, nothing is held against the model, so that what calls say of
+ * each other must notice the fault. tests/hostile-test sees that each up to LAST_FAULT is noticed. */
 enum {
     FIRST_BROKEN_CALL = 1000,
     FIRST_WITHOUT_MODEL = 59,
@@ -9,7 +9,9 @@ enum {
     IMAGE_WITHOUT_MODEL = 127,
     LAST_IMAGE_WITHOUT_MODEL = 140,
     RUN_WITHOUT_MODEL = 205,
-    LAST_FAULT = 230
+    LAST_RUN_WITHOUT_MODEL = 230,
+    COMMON_WITHOUT_MODEL = 262,
+    LAST_FAULT = 271
 };
 
 static unsigned long fault;
@@ -592,6 +594,193 @@ static int32_t break_runs(int32_t result)
     return break_main_run(break_numbers(break_run_word(break_answer(result))));
 }
 
+/* ---- two paths */
+
+/* Neither is a prefix of the other. */
+static int is_apart(int32_t result)
+{
+    return result == LESS || result == GREATER;
+}
+
+/* How many bytes of the resolved paths are alike, from their start. */
+static size_t alike(void)
+{
+    struct bytes a = turn.compared[0]->path, b = turn.compared[1]->path;
+    size_t count = 0;
+
+    while (count < a.size && count < b.size && a.start[count] == b.start[count])
+        count++;
+    return count;
+}
+
+/* The components in which the paths part begin with the same byte. */
+static int begin_alike(void)
+{
+    return turn.compared[0]->path.start[alike() - 1] != '/';
+}
+
+static void add_shared(size_t more)
+{
+    set_size(NUMBER, size_in(NUMBER) + more);
+}
+
+/* Only the low half of the number is written. */
+static void keep_high_half(void)
+{
+    set_size(NUMBER, (turn.noise & ~(size_t)UINT32_MAX) | size_in(NUMBER));
+}
+
+/* Faults in what a comparison leaves in the lent areas. */
+static void break_shared(int32_t result)
+{
+    int related = result >= 0, apart = is_apart(result);
+
+    switch (fault) {
+    case 231: if (related) add_shared(1); break;                                       /* the root counted */
+    case 232: if (apart && begin_alike()) add_shared(1); break;                        /* part of a component counted */
+    case 233: case 262: if (apart) add_shared(1); break;                               /* the first difference counted */
+    case 234: if (related && size_in(NUMBER) > 0) add_shared(SIZE_MAX); break;         /* one less */
+    case 235: if (related) set_size(NUMBER, alike()); break;                           /* bytes counted */
+    case 236: if (apart) set_size(NUMBER, 0); break;                                   /* nothing, if neither is a prefix */
+    case 237: case 263: if (!related) set_size(NUMBER, turn.noise); break;             /* the number kept by a refusal */
+    case 238: if (related) set_size(NUMBER, turn.noise); break;                        /* and by any other call */
+    case 239: if (related) keep_high_half(); break;                                    /* half of it kept */
+    case 240: if (related) set_size(NUMBER, size_in(NUMBER) & 255); break;             /* counted in one byte */
+    case 241: change(PATH, 0); break;                                                  /* a byte that is only read */
+    case 242: change(OTHER_PATH, 0); break;                                            /* one of the second path */
+    case 243: change(DIRECTORY, 0); break;                                             /* one of the directory */
+    case 264: if (result == PREFIX) add_shared(1); break;                              /* one more of a prefix */
+    }
+}
+
+/* Where the name ends that goes on at a place. */
+static long name_end(struct bytes path, size_t at)
+{
+    while (at < path.size && path.start[at] != '/')
+        at++;
+    return (long)at;
+}
+
+/* Paths that part, by two numbers; as they were where these are the same. */
+static int32_t by_numbers(int32_t result, long first, long second)
+{
+    return first == second ? result : first < second ? LESS : GREATER;
+}
+
+/* The byte at a place, or -1 at the path's end; with a sign, -1000 at a component's end too. */
+static long byte_at(struct bytes path, size_t at)
+{
+    return at < path.size ? path.start[at] : -1;
+}
+
+static long signed_at(struct bytes path, size_t at)
+{
+    long byte = byte_at(path, at);
+
+    return byte < 0 || byte == '/' ? -1000 : byte > 127 ? byte - 256 : byte;
+}
+
+/* Faults in the order of paths that part. */
+static int32_t break_order(int32_t result)
+{
+    struct bytes a = turn.compared[0]->path, b = turn.compared[1]->path;
+    size_t at = alike();
+
+    switch (fault) {
+    case 244: return LESS + GREATER - result;                                          /* the other order */
+    case 245: return by_numbers(result, byte_at(a, at), byte_at(b, at));               /* a slash as any other byte */
+    case 246: return by_numbers(result, signed_at(a, at), signed_at(b, at));           /* bytes with a sign */
+    case 247: return by_numbers(result, name_end(a, at), name_end(b, at));             /* the shorter name first */
+    case 248: return result == LESS && at == a.size ? PREFIX : result;                 /* a prefix by bytes */
+    case 265: return LESS;                                                             /* Less both ways round */
+    default: return result;
+    }
+}
+
+/* The relation of other paths, and what those share. */
+static int32_t relate_others(struct bytes first, struct bytes second)
+{
+    size_t common;
+    int32_t relation = model_common(first, second, &common);
+
+    set_size(NUMBER, common);
+    return relation;
+}
+
+/* One of the two is resolved in the root. */
+static int32_t relate_in_root(int32_t result, int which)
+{
+    static const struct bytes root = {(const uint8_t *)"/", 1};
+    struct bytes paths[2];
+    struct path resolved;
+
+    if (result < 0 || model_resolve(turn.compared[which]->given, root, &resolved) != 0)
+        return result;
+    paths[which].start = resolved.bytes;
+    paths[which].size = resolved.size;
+    paths[!which] = turn.compared[!which]->path;
+    return relate_others(paths[0], paths[1]);
+}
+
+/* Absolute paths are not resolved. */
+static int32_t relate_given(int32_t result)
+{
+    struct bytes a = turn.compared[0]->given, b = turn.compared[1]->given;
+
+    return result >= 0 && a.start[0] == '/' && b.start[0] == '/' ? relate_others(a, b) : result;
+}
+
+/* Faults in how two paths relate. */
+static int32_t break_relation(int32_t result)
+{
+    switch (fault) {
+    case 249: return result == PREFIX ? EXTENSION : result == EXTENSION ? PREFIX : result; /* these two exchanged */
+    case 250: case 266: return result == EQUAL ? PREFIX : result;                      /* Prefix said to equal paths */
+    case 251: return result == PREFIX ? EQUAL : result;                                /* Equal said to a prefix */
+    case 252: case 267: return result == PREFIX ? LESS : result;                       /* Less said to a prefix */
+    case 253: case 268: return relate_in_root(result, 1);                              /* the second path in the root */
+    case 254: return relate_in_root(result, 0);                                        /* the first path in the root */
+    case 255: return relate_given(result);                                             /* not resolved */
+    default: return is_apart(result) ? break_order(result) : result;
+    }
+}
+
+static int is_bad_directory(void)
+{
+    return turn.directory.size == 0 || turn.directory.size > MAX_PATH || turn.directory.start[0] != '/';
+}
+
+static int is_longest(struct bytes first, struct bytes second)
+{
+    return first.size == MAX_PATH || second.size == MAX_PATH;
+}
+
+/* Faults in the refusals of a comparison. */
+static int32_t break_refusals(int32_t result)
+{
+    const struct compared *first = turn.compared[0], *second = turn.compared[1];
+    int related = result >= 0;
+
+    switch (fault) {
+    case 256: case 269: return second->cause != 0 ? -second->cause : result;           /* the second's cause first */
+    case 257: case 270: return first->cause == 0 && !related ? GREATER : result;       /* the second's not looked at */
+    case 258: case 271: return first->cause != 0 ? LESS : result;                      /* the first's not looked at */
+    case 259: return related && is_bad_directory() ? -6 : result;                      /* 6 said to absolute paths */
+    case 260: return related && is_longest(first->given, second->given) ? -5 : result; /* 1,024 bytes are too many */
+    case 261: return related && is_longest(first->path, second->path) ? -7 : result;   /* and when resolved */
+    default: return result;
+    }
+}
+
+/* Faults about two paths. */
+static int32_t break_common(int32_t result)
+{
+    if (current != COMMON)
+        return result;
+    break_shared(result);
+    return break_refusals(break_relation(result));
+}
+
 /* ---- a permission without a path */
 
 static int is_unit(void)
@@ -674,7 +863,7 @@ static int32_t broken(int32_t result)
         return result;
     break_areas(result);
     break_standby(result);
-    result = break_unit(break_runs(break_image(result)));
+    result = break_unit(break_common(break_runs(break_image(result))));
     switch (fault) {
     case 14: return current == CHECK_PATH && result > 0 ? 0 : result;     /* a check that fails passes */
     case 15: return result == -8 ? 0 : result;                            /* a full table is no refusal */
@@ -707,7 +896,8 @@ static int32_t broken(int32_t result)
 static int is_without_model(void)
 {
     int is_one = (fault >= FIRST_WITHOUT_MODEL && fault <= LAST_WITHOUT_MODEL)
-                 || (fault >= IMAGE_WITHOUT_MODEL && fault <= LAST_IMAGE_WITHOUT_MODEL) || fault >= RUN_WITHOUT_MODEL;
+                 || (fault >= IMAGE_WITHOUT_MODEL && fault <= LAST_IMAGE_WITHOUT_MODEL)
+                 || (fault >= RUN_WITHOUT_MODEL && fault <= LAST_RUN_WITHOUT_MODEL) || fault >= COMMON_WITHOUT_MODEL;
 
     return is_one && calls >= FIRST_BROKEN_CALL;
 }

@@ -24,7 +24,7 @@ enum {
     FRESH, INSERT, SET_SWITCHES, QUERY, QUERY_ALL, CHECK_ASKS, CHECK_PATH, CHECK_ALL_ASKS, CHECK_ALL, REQUEST_ASKS,
     REQUEST_PATH, REQUEST_ALL_ASKS, REQUEST_ALL, REVOKE, REVOKE_ALL, MAKE_CHILD, BEGIN_RUN, LINKED_INSERT, LINKED_SWITCHES,
     LINKED_CHECK, LINKED_CHECK_ALL, LINKED_REQUEST, LINKED_REQUEST_ALL, LINKED_REVOKE, LINKED_REVOKE_ALL, LINKED_CHILD,
-    ARRIVE, OWED, LINKED_IMAGE, ARRIVE_IMAGE, USED, HEAD, ENTRY, UNIT_CHECKED, UNIT_REQUESTED, UNIT_REVOKED, FUNCTIONS
+    ARRIVE, OWED, LINKED_IMAGE, ARRIVE_IMAGE, USED, HEAD, ENTRY, COMMON, UNIT_CHECKED, UNIT_REQUESTED, UNIT_REVOKED, FUNCTIONS
 };
 
 #define CAUSE(n) (1u << (n))
@@ -68,6 +68,7 @@ static const struct {
     [USED] = {"used", CAUSE(1), 4, TABLE_BYTES},
     [HEAD] = {"head", CAUSE(1), 0, 0},
     [ENTRY] = {"entry", CAUSE(1), 0, 1},
+    [COMMON] = {"common", CAUSES(4, 7), EQUAL, GREATER},
     [UNIT_CHECKED] = {"unit_check", CAUSE(3) | CAUSE(12), 0, 5},
     [UNIT_REQUESTED] = {"unit_request", CAUSE(3) | CAUSE(12), 0, 5},
     [UNIT_REVOKED] = {"unit_revoke", CAUSE(12), 0, 5},
@@ -81,6 +82,7 @@ static unsigned long causes_seen[FUNCTIONS][GREATEST_CAUSE + 1];
 static unsigned long tables_seen, none_seen, full_by_entries, full_by_bytes, refused_by_entries, refused_by_bytes;
 static unsigned long records_seen, records_of_refused, arrivals_by_entries, full_elsewhere, mains_followed;
 static unsigned long images_followed, images_wrong[WRONG_ALL + 1]; /* by what is wrong: a sum of WRONG_.. */
+static size_t most_shared; /* components of two paths */
 static int current; /* the function that runs */
 
 static int is_child(void)
@@ -124,6 +126,13 @@ static struct slot {
     int style;
 } slots[SLOTS], standby_slot, begun_slot;
 
+/* A path that is compared with another. */
+struct compared {
+    struct bytes given, path; /* and as resolved */
+    struct path resolved;
+    int cause; /* 0, or 4 to 7 */
+};
+
 static struct turn {
     struct slot *slot;
     void *memory; /* what is handed in, as for the other areas */
@@ -150,6 +159,8 @@ static struct turn {
     const uint32_t *words;
     size_t words_size;
     size_t image_space; /* of an image that is written */
+    const struct compared *compared[2];
+    size_t noise; /* in the number of what they share, before the call */
     struct {
         uint32_t state, prompt, answer; /* the state before the call */
     } unit;
@@ -1211,6 +1222,136 @@ static void run_child(void)
         memcpy(slots[below(SLOTS)].bytes, areas[CHILD].start, child_size);
 }
 
+/* ---- how two paths relate */
+
+static void resolve_compared(struct compared *compared)
+{
+    compared->cause = model_resolve(compared->given, turn.directory, &compared->resolved);
+    compared->path.start = compared->resolved.bytes;
+    compared->path.size = compared->resolved.size;
+}
+
+static void lend_compared(struct compared *compared, int area, const uint8_t *given, size_t size)
+{
+    compared->given.size = size;
+    compared->given.start = lend(area, given, size);
+    resolve_compared(compared);
+}
+
+/* Areas that are only read may overlap: the directory is the first path, or the second is the first one's beginning. */
+static void overlap_compared(struct compared *first, struct compared *second)
+{
+    if (one_in(2)) {
+        turn.directory = first->given;
+        resolve_compared(first);
+    } else {
+        second->given.start = first->given.start;
+        second->given.size = below((uint32_t)first->given.size + 1);
+    }
+    resolve_compared(second);
+}
+
+/* A path that mostly has to do with the first, as it was given or as it is resolved. */
+static size_t make_second(uint8_t *path, const struct compared *first, int style)
+{
+    struct bytes like = first->cause == 0 && one_in(2) ? first->path : first->given;
+
+    return one_in(4) ? make_path(path, style) : make_related_path(path, like.start, like.size);
+}
+
+static void lend_two_paths(struct compared *first, struct compared *second)
+{
+    uint8_t path[LONGEST_PATH], directory[LONGEST_PATH];
+    int style = (int)below(STYLES), are_wrong = one_in(12);
+    size_t size = make_directory(directory);
+
+    turn.directory.size = size;
+    turn.directory.start = lend(DIRECTORY, directory, size);
+    size = are_wrong ? make_wrong_path(path) : one_in(8) ? make_deep_path(path) : make_path(path, style);
+    lend_compared(first, PATH, path, size);
+    size = are_wrong ? make_wrong_path(path) : make_second(path, first, style);
+    lend_compared(second, OTHER_PATH, path, size);
+    if (one_in(16))
+        overlap_compared(first, second);
+}
+
+/* What a call said of two paths. */
+struct said {
+    int32_t result;
+    size_t shared;
+};
+
+static struct said compare_paths(const struct compared *first, const struct compared *second)
+{
+    size_t *common = lend(NUMBER, NULL, sizeof *common), shared = 0;
+    int32_t expected = first->cause != 0 ? -first->cause : -second->cause;
+    struct said said;
+
+    if (expected == 0)
+        expected = model_common(first->path, second->path, &shared);
+    want_size(NUMBER, shared);
+    most_shared = shared > most_shared ? shared : most_shared;
+    turn.compared[0] = first;
+    turn.compared[1] = second;
+    turn.noise = size_in(NUMBER);
+    next(COMMON);
+    said.result = settle(permissions_common(first->given.start, first->given.size, second->given.start, second->given.size,
+                                            turn.directory.start, turn.directory.size, common), expected);
+    said.shared = size_in(NUMBER);
+    return said;
+}
+
+/* Whether two paths may be said to relate so, by what was said of each with itself: that it is equal, and how many components it
+ * has; or its refusal. */
+static int may_relate(const struct said *said, const struct said *first, const struct said *second)
+{
+    int32_t refused = first->result < 0 ? first->result : second->result;
+
+    if (refused != 0)
+        return said->result == refused && said->shared == 0;
+    if (said->shared > first->shared || said->shared > second->shared)
+        return 0;
+    if (said->shared < first->shared && said->shared < second->shared)
+        return said->result == LESS || said->result == GREATER;
+    if (first->shared == second->shared)
+        return said->result == EQUAL;
+    return said->result == (said->shared == first->shared ? PREFIX : EXTENSION);
+}
+
+/* What calls with the same two paths, both ways round and each with itself, must say of each other, whatever the model. */
+static void hold_to_each_other(struct said said[2][2])
+{
+    static const int32_t turned[] = {EQUAL, EXTENSION, PREFIX, GREATER, LESS};
+
+    for (int i = 0; i < 2; i++)
+        if (said[i][i].result > 0 || !may_relate(&said[i][!i], &said[i][i], &said[!i][!i]))
+            violation("result %d with %zu shared; each path with itself: %d with %zu, %d with %zu", (int)said[i][!i].result,
+                      said[i][!i].shared, (int)said[i][i].result, said[i][i].shared, (int)said[!i][!i].result,
+                      said[!i][!i].shared);
+    if (said[0][1].result >= 0
+        && (said[1][0].result != turned[said[0][1].result] || said[1][0].shared != said[0][1].shared))
+        violation("result %d with %zu shared, and the other way round %d with %zu", (int)said[0][1].result, said[0][1].shared,
+                  (int)said[1][0].result, said[1][0].shared);
+}
+
+/* One way round or the other, or both ways and each path with itself. */
+static void run_common(void)
+{
+    static struct compared compared[2];
+    struct said said[2][2];
+    uint32_t first = below(2);
+
+    lend_two_paths(&compared[0], &compared[1]);
+    if (one_in(2)) {
+        (void)compare_paths(&compared[first], &compared[!first]);
+        return;
+    }
+    for (int i = 0; i < 2; i++)
+        for (int j = 0; j < 2; j++)
+            said[i][j] = compare_paths(&compared[i], &compared[j]);
+    hold_to_each_other(said);
+}
+
 /* ---- the standby: arrivals */
 
 enum { SENT_RECORDS = 32 };
@@ -1835,13 +1976,14 @@ static void run_turn(void)
     static void (*const turns[])(void) = {run_insert, run_insert,       run_insert,       run_ask,      run_ask,  run_ask,
                                           run_query,  run_revoke,       run_child,        run_child,    run_used, run_head,
                                           run_arrive, run_arrive,       run_arrive,       run_switches, run_owed, run_entry,
-                                          run_image,  run_arrive_image, run_arrive_image, run_unit,     run_begin};
+                                          run_image,  run_arrive_image, run_arrive_image, run_unit,     run_begin,
+                                          run_common, run_common};
     void (*run)(void) = one_in(80) ? run_fresh : turns[below(sizeof turns / sizeof turns[0])];
 
     lend_none();
     turn.linked = NULL;
-    if (!is_room(5) && (run == run_ask || run == run_image))
-        run = run_used; /* the others make three calls, and up to five */
+    if (!is_room(5) && (run == run_ask || run == run_image || run == run_common))
+        run = run_used; /* the others make three calls, up to five, and up to four */
     run();
     if (turn.linked != NULL && size_in(NUMBER_3) > 0)
         follow_main();
@@ -1915,6 +2057,7 @@ static void print_report(void)
            answers_seen[LINKED_IMAGE][0], answers_seen[ARRIVE_IMAGE][TAKEN], answers_seen[ARRIVE_IMAGE][REPEAT],
            causes_seen[ARRIVE_IMAGE][13], images_followed);
     print_wrong_images();
+    printf("two paths shared at most %zu components\n", most_shared);
     printf("hostile: %lu calls, seed %lu, 0 violations\n", calls, seed);
 }
 

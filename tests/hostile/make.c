@@ -200,6 +200,44 @@ size_t make_directory(uint8_t *directory)
     }
 }
 
+size_t make_deep_path(uint8_t *path)
+{
+    uint32_t depth = one_in(2) ? MAX_PATH / 2 + 1 - below(4) : 250 + below(12);
+
+    for (uint32_t i = 0; i < depth; i++)
+        memcpy(path + 2 * i, "/a", 2);
+    return 2 * depth;
+}
+
+size_t make_wrong_path(uint8_t *path)
+{
+    static const size_t sizes[] = {0, MAX_PATH, MAX_PATH + 1};
+    size_t size = sizes[below(sizeof sizes / sizeof sizes[0])];
+
+    memset(path, 'w', size); /* relative, so that with the directory's slash it is too long */
+    return size;
+}
+
+size_t make_related_path(uint8_t *related, const uint8_t *path, size_t size)
+{
+    static const char *const ends[] = {"b", "-", "/", "/b", "/..", "/.", "/b/..", "\xFF"};
+    size_t kept = size < LONGEST_PATH - 301 ? size : LONGEST_PATH - 301;
+
+    if (kept == 0)
+        return put_text(related, "/");
+    memcpy(related, path, kept);
+    switch (below(5)) {
+    case 0: break;
+    case 1: kept += put_text(related + kept, ends[below(sizeof ends / sizeof ends[0])]); break;
+    case 2: kept = below((uint32_t)kept); break;
+    case 3: related[below((uint32_t)kept)] ^= (uint8_t)(1u << below(8)); break;
+    default:
+        kept = below((uint32_t)kept);
+        kept += make_component(related + kept, FEW_NAMES);
+    }
+    return kept;
+}
+
 /* ---- tables */
 
 static uint8_t pool[2 * MAX_SUM]; /* the paths of the table in the making */

@@ -41,6 +41,16 @@ uint32_t make_main_run(void);
 size_t make_path(uint8_t *path, int style);
 size_t make_directory(uint8_t *directory);
 
+/* A path of many components, up to one more than there can be. */
+size_t make_deep_path(uint8_t *path);
+
+/* A path that is refused in any working directory, by one cause or another. */
+size_t make_wrong_path(uint8_t *path);
+
+/* A path that has to do with another one: the same, with more at its end or less, with another byte, or one that goes on
+ * otherwise. */
+size_t make_related_path(uint8_t *related, const uint8_t *path, size_t size);
+
 /* A table with entries in any order, of any size up to the largest; `memory` has TABLE_BYTES at least. */
 void make_table(uint8_t *memory, int style);
 

@@ -110,6 +110,30 @@ static int path_order(struct bytes a, struct bytes b)
     return a.start[i] < b.start[i] ? -1 : 1;
 }
 
+/* Byte by byte; where one is the other's beginning, it is less. */
+static int component_order(struct bytes a, struct bytes b)
+{
+    int order = memcmp(a.start, b.start, a.size < b.size ? a.size : b.size);
+
+    return order != 0 ? order : (a.size > b.size) - (a.size < b.size);
+}
+
+int model_common(struct bytes first, struct bytes second, size_t *common)
+{
+    size_t at = 1; /* where the next component begins, in both */
+
+    for (*common = 0; at < first.size && at < second.size; ++*common) {
+        struct bytes component = component_at(first, at);
+        int order = component_order(component, component_at(second, at));
+        if (order != 0)
+            return order < 0 ? LESS : GREATER;
+        at += component.size + 1;
+    }
+    if (at < first.size)
+        return EXTENSION;
+    return at < second.size ? PREFIX : EQUAL;
+}
+
 /* ---- a table in memory */
 
 static uint32_t mark_of(uint32_t kind)

@@ -27,6 +27,7 @@ enum { INHERIT, CHILD_GRANTED, NOT_GRANTED, LIST, CODES };
 enum { SWITCH_GRANTED = 1, SWITCH_DENIED = 2, SWITCH_IGNORED = 4, SWITCH_PROMPT_DENIED = 8, SWITCH_PROMPT = 16, SWITCHES = 32 };
 enum { CHECK, REQUEST, UNIT_REVOKE /* of a permission without a path */ };
 enum { APPLIED, REPEAT, EARLY, TAKEN };
+enum { EQUAL, PREFIX, EXTENSION, LESS, GREATER };
 
 /* What can be wrong with the words of a record or an image; they add up. Behind one of the first three nothing is read. */
 enum {
@@ -98,6 +99,9 @@ void model_writes(const struct table *table, uint8_t *memory);
 
 /* 0, or the cause from 4 to 7. */
 int model_resolve(struct bytes given, struct bytes directory, struct path *resolved);
+
+/* How a resolved path relates to another, and how many leading components they share. */
+int model_common(struct bytes first, struct bytes second, size_t *common);
 
 /* A resolved path, or NULL for the call with no path. The link is NULL for a plain call. Results as in permissions.h: a
  * state, 0, or minus the cause. */

@@ -6,6 +6,7 @@ use std::cell::Cell;
 use std::cell::RefCell;
 use std::ffi::OsStr;
 use std::os::unix::ffi::OsStrExt;
+use std::path::Component;
 
 use super::stubs::WorkingDirectory;
 use super::*;
@@ -391,6 +392,20 @@ pub fn child(parent: &mut Table, child: &mut Table, call: &ChildCall) -> (Option
     *parent = run.parent;
     *child = made;
     (refusal, run.asks)
+}
+
+/// How many leading components below the root two paths share, by the standard
+/// library's own components. The first path's refusal comes first.
+pub fn common(first: Given<'_>, second: Given<'_>) -> Result<usize, Refusal> {
+    let first = resolve(first)?;
+    let second = resolve(second)?;
+    Ok(first
+        .path
+        .components()
+        .zip(second.path.components())
+        .take_while(|(first, second)| first == second)
+        .filter(|(shared, _)| *shared != Component::RootDir)
+        .count())
 }
 
 /// The Rust's permission without a path, by its state's number, which may be

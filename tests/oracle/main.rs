@@ -44,6 +44,7 @@ enum Call {
     Request(Option<Bytes>, Bytes, u32),
     Revoke(Option<Bytes>, Bytes),
     Child(ChildCall),
+    Common(Bytes, Bytes, Bytes),
     List,
     ChildList,
     Unit(u32, bool),
@@ -152,6 +153,7 @@ fn parsed(line: &[u8]) -> Option<Call> {
             answers: words.counted(Words::number)?,
             items: words.counted(Words::bytes)?,
         }),
+        b"common" => Call::Common(words.bytes()?, words.bytes()?, words.bytes()?),
         b"list" => Call::List,
         b"childlist" => Call::ChildList,
         b"unit" => Call::Unit(words.number()?, words.flag()?),
@@ -278,6 +280,10 @@ impl Held {
             Call::Revoke(path, directory) => {
                 let state = calls::revoke(main, given_some(path, directory))?;
                 format!("{state:?}")
+            }
+            Call::Common(first, second, directory) => {
+                let common = calls::common(given(first, directory), given(second, directory))?;
+                format!("common {common}")
             }
             Call::List => table_lines(main),
             Call::ChildList => table_lines(&self.child),

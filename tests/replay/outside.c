@@ -1,4 +1,4 @@
-/* Linked into replay in place of three calls of the library (the linker's --wrap): each first reads the byte behind the lent
+/* Linked into replay in place of four calls of the library (the linker's --wrap): each first reads the byte behind the lent
  * area that the variable OUTSIDE names, and then makes the call. tests/replay-test expects the program to be stopped there.
  */
 #include <stddef.h>
@@ -53,6 +53,20 @@ int32_t __wrap_permissions_child(void *parent, size_t parent_size, void *child, 
     read_behind("directory", directory, directory_size);
     return __real_permissions_child(parent, parent_size, child, child_size, code, items, items_size, ends, ends_count,
                                     answers, answers_count, directory, directory_size, asked);
+}
+
+int32_t __real_permissions_common(const void *first, size_t first_size, const void *second, size_t second_size,
+                                  const void *directory, size_t directory_size, size_t *common);
+int32_t __wrap_permissions_common(const void *first, size_t first_size, const void *second, size_t second_size,
+                                  const void *directory, size_t directory_size, size_t *common);
+
+int32_t __wrap_permissions_common(const void *first, size_t first_size, const void *second, size_t second_size,
+                                  const void *directory, size_t directory_size, size_t *common)
+{
+    read_behind("first", first, first_size);
+    read_behind("second", second, second_size);
+    read_behind("directory of two", directory, directory_size);
+    return __real_permissions_common(first, first_size, second, second_size, directory, directory_size, common);
 }
 
 int32_t __real_permissions_linked_child(void *parent, size_t parent_size, uint32_t run, uint64_t *number, void *child,

@@ -202,7 +202,7 @@ static bool is_dash_next(const struct line *line)
 
 struct replay {
     struct area table, child, standby;
-    struct area path, directory, text, items, ends, answers, records, words;
+    struct area path, second, directory, text, items, ends, answers, records, words;
     bool is_linked;                   /* whether calls are the linked ones */
     uint32_t run;                     /* what the linked calls hand in */
     uint64_t number;                  /* the main's */
@@ -382,6 +382,16 @@ static void print_state(int32_t result)
         printf("refused %d\n", (int)-result);
     else
         puts(permissions_state_name(result));
+}
+
+static void print_common(int32_t result, size_t common)
+{
+    if (result > PERMISSIONS_RELATION_GREATER)
+        fail("two paths relate in no known way", 0);
+    if (result < 0)
+        printf("refused %d\n", (int)-result);
+    else
+        printf("common %zu\n", common);
 }
 
 static void print_arrival(int32_t result)
@@ -682,6 +692,22 @@ static bool call_child(struct replay *replay, struct line *line)
     return true;
 }
 
+/* Both paths are lent at once, so the second has an area of its own. No table is lent, and so nothing is recorded. */
+static bool call_common(struct replay *replay, struct line *line)
+{
+    struct bytes first, second, directory;
+    size_t common;
+    int32_t result;
+
+    if (!take_lent(line, &replay->path, &first) || !take_lent(line, &replay->second, &second)
+        || !take_lent(line, &replay->directory, &directory) || !is_over(line))
+        return false;
+    result = permissions_common(first.start, first.size, second.start, second.size, directory.start, directory.size,
+                                &common);
+    print_common(result, common);
+    return true;
+}
+
 static bool call_linked(struct replay *replay, struct line *line)
 {
     uint32_t is_linked;
@@ -891,6 +917,7 @@ static const struct call {
     { "request", call_request },
     { "revoke", call_revoke },
     { "child", call_child },
+    { "common", call_common },
     { "linked", call_linked },
     { "number", call_number },
     { "run", call_run },

@@ -7,7 +7,7 @@ use lib.ListN.{replicate}
 use Rattle.refusals.specs.Refusals.{firstCause, andThen, unless}
 use Rattle.paths.specs.Components.{same, grown, parted, pieces, withoutEmpty, components, slashed, spell}
 use Rattle.paths.specs.Resolving.{isAbsolute, entered, enterAll, normalize, isResolved}
-use Rattle.paths.specs.Relations.{leads, isPrefix, numberOrder, orElse, inTurn, pathOrder}
+use Rattle.paths.specs.Relations.{shared, common, depth, isPrefix, numberOrder, orElse, inTurn, pathOrder}
 use Rattle.paths.specs.Giving.{isPath}
 use Rattle.table.specs.Entries.{kindOf, isKind, samePath, strictlyExtends, compareAlike, grantedOrder, compare}
 use Rattle.table.specs.Placing.{isAfter, searchFrom, search, placeBy, place, placedAt}
@@ -62,7 +62,7 @@ unfolding printed two-changes ninety-owed word-left board-swap no-run
     firstCause andThen unless
     same grown parted pieces withoutEmpty components slashed spell
     isAbsolute entered enterAll normalize isResolved
-    leads isPrefix numberOrder orElse inTurn pathOrder isPath
+    shared common depth isPrefix numberOrder orElse inTurn pathOrder isPath
     kindOf isKind samePath strictlyExtends compareAlike grantedOrder compare
     isAfter searchFrom search placeBy place placedAt
     has setBit clearBit marked pathBytes isEntry every any present marksOf isTable

@@ -9,7 +9,7 @@ use Rattle.paths.specs.declared.Descriptor.{Descriptor}
 use Rattle.paths.specs.declared.Descriptor.the-variants.{NoPath, Path}
 use Rattle.paths.specs.Components.{same, grown, parted, pieces, withoutEmpty, components, slashed, spell}
 use Rattle.paths.specs.Resolving.{isAbsolute, join, entered, enterAll, normalize, resolve, isResolved, isBadDirectory, pathConditions}
-use Rattle.paths.specs.Relations.{leads, isPrefix}
+use Rattle.paths.specs.Relations.{shared, common, depth, isPrefix}
 use Rattle.paths.specs.Giving.{isPath, resolved, queryOf, given}
 use Rattle.table.specs.declared.Kind.the-variants.{G}
 use Rattle.table.specs.declared.Numbering.the-variants.{Plain}
@@ -105,7 +105,7 @@ switched-on t v act e = record { outcome = rw e; memory = rw e }
 pub each-needed : EachNeeded
 unfolding bytes entry firstCause andThen unless
     same grown parted pieces withoutEmpty components slashed spell
-    isAbsolute join entered enterAll normalize resolve isResolved isBadDirectory pathConditions leads isPrefix isPath resolved queryOf given
+    isAbsolute join entered enterAll normalize resolve isResolved isBadDirectory pathConditions shared common depth isPrefix isPath resolved queryOf given
     kindOf knownKind samePath place placedAt has setBit marked any every present marksOf pathBytes isEntry isTable
     inserted insertedBy adds wouldAdd hasRoom overflows applyAct actOverflows isAct applyActs
     usedUp carryCause actsOf knownSwitches carried

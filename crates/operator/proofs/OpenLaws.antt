@@ -6,9 +6,11 @@ use mathlib.Core.List.{List, [], _∷_}
 use mathlib.Core.Option.{Option, none, some}
 use mathlib.Core.Bool.{Bool, true, false, _&&_, cond, true≢false, false≢true}
 use Rattle.paths.specs.Components.{same, components}
-use Rattle.paths.specs.Relations.{leads, isPrefix}
+use Rattle.paths.specs.Relations.{isPrefix}
+use Rattle.paths.specs.CommonPart.{leads}
 use Rattle.paths.specs.Giving.{path}
 use Rattle.paths.proofs.ComponentLaws.{and-left, and-right, and-both, same-eq, same-refl}
+use Rattle.paths.proofs.CommonLaws.{prefix-leads}
 use Rattle.paths.proofs.RelationLaws.{prefix-trans}
 use Rattle.table.specs.declared.Kind.{Kind}
 use Rattle.table.specs.declared.Kind.the-variants.{G, D, P, I}
@@ -122,8 +124,8 @@ leads-either (c ∷ cs) (d ∷ ds) (e ∷ es) a b n =
     and-both same-dc (leads-either cs ds es (and-right (same c e) _ a) (and-right (same d e) _ b) (rw same-cd at n))
 
 prefix-either : (x q p : List ℕ) → isPrefix x p ≡ true → isPrefix q p ≡ true → isPrefix x q ≡ false → isPrefix q x ≡ true
-unfolding isPrefix
-prefix-either x q p = leads-either (components x) (components q) (components p)
+prefix-either x q p =
+    rw (prefix-leads x p, prefix-leads q p, prefix-leads x q, prefix-leads q x) (leads-either (components x) (components q) (components p))
 
 module _ (q p : List ℕ) (h : isPrefix q p ≡ true) where
   -- a G that matches q matches p

@@ -12,7 +12,7 @@ use Rattle.paths.specs.declared.Descriptor.{Descriptor}
 use Rattle.paths.specs.declared.Descriptor.the-variants.{NoPath, Path}
 use Rattle.paths.specs.Components.{same, grown, parted, pieces, withoutEmpty, components, slashed, spell}
 use Rattle.paths.specs.Resolving.{isAbsolute, join, entered, enterAll, normalize, resolve, isResolved, isBadDirectory, pathConditions}
-use Rattle.paths.specs.Relations.{leads, isPrefix, numberOrder, orElse, inTurn, pathOrder}
+use Rattle.paths.specs.Relations.{shared, common, depth, isPrefix, numberOrder, orElse, inTurn, pathOrder}
 use Rattle.paths.specs.Giving.{path, isPath, resolved, queryOf, given}
 use Rattle.table.specs.declared.Kind.the-variants.{G, P}
 use Rattle.table.specs.declared.Numbering.the-variants.{Plain, After}
@@ -191,7 +191,7 @@ pub not-empty : Witness
 unfolding bytes entry firstCause andThen unless
     same grown parted pieces withoutEmpty components slashed spell
     isAbsolute join entered enterAll normalize resolve isResolved isBadDirectory pathConditions
-    leads isPrefix numberOrder orElse inTurn pathOrder isPath resolved queryOf given
+    shared common depth isPrefix numberOrder orElse inTurn pathOrder isPath resolved queryOf given
     samePath strictlyExtends compareAlike grantedOrder compare isAfter searchFrom search placeBy place placedAt
     has setBit clearBit marked any every present marksOf pathBytes isEntry isTable
     inserted insertedBy adds wouldAdd hasRoom overflows keptUnless without revokedBy applyAct actOverflows isAct applyActs

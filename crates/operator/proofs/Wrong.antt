@@ -10,7 +10,7 @@ use Rattle.paths.specs.declared.Descriptor.the-variants.{Path}
 use Rattle.paths.specs.Components.{same, grown, parted, pieces, withoutEmpty, components, slashed, spell}
 use Rattle.paths.specs.Resolving.{isAbsolute, join, entered, enterAll, normalize, resolve, isResolved, isBadDirectory, pathConditions}
 use Rattle.paths.specs.Copying.{begun}
-use Rattle.paths.specs.Relations.{leads, isPrefix, numberOrder, orElse, inTurn, pathOrder}
+use Rattle.paths.specs.Relations.{shared, common, depth, isPrefix, numberOrder, orElse, inTurn, pathOrder}
 use Rattle.paths.specs.Giving.{Query, noPath, path, isPath, resolved, queryOf, given}
 use Rattle.table.specs.declared.Numbering.the-variants.{Plain}
 use Rattle.table.specs.declared.Kind.the-variants.{G, D}
@@ -234,7 +234,7 @@ pub ruled-out : RuledOut
 unfolding bytes entry firstCause andThen unless
     same grown parted pieces withoutEmpty components slashed spell
     isAbsolute join entered enterAll normalize resolve isResolved isBadDirectory pathConditions
-    leads isPrefix numberOrder orElse inTurn pathOrder isPath resolved queryOf given
+    shared common depth isPrefix numberOrder orElse inTurn pathOrder isPath resolved queryOf given
     samePath strictlyExtends compareAlike grantedOrder compare isAfter searchFrom search placeBy place placedAt
     has marked any every present marksOf pathBytes isEntry isTable
     inserted insertedBy adds wouldAdd hasRoom overflows keptUnless without applyAct actOverflows isAct applyActs

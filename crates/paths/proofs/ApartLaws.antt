@@ -9,10 +9,12 @@ use lib.ListN.{length, getD, List·getD-append}
 use borrow.Author.Tests.{eq-eqb, eqb-true, lt-ltb, le-ltb}
 use Rattle.paths.specs.Components.{same, components, slash, slashed, spell}
 use Rattle.paths.specs.Resolving.{isResolved}
-use Rattle.paths.specs.Relations.{leads, isPrefix}
+use Rattle.paths.specs.Relations.{isPrefix}
+use Rattle.paths.specs.CommonPart.{leads}
 use Rattle.paths.specs.Relating.{sameByte, sameEight, SameBytes, lesserLength, TellsApart}
 use Rattle.paths.proofs.ComponentLaws.{and-left, and-right, and-both, same-eq}
 use Rattle.paths.proofs.ResolvingLaws.{spell-components}
+use Rattle.paths.proofs.CommonLaws.{prefix-leads}
 use Rattle.paths.proofs.RelationLaws.{prefix-length}
 
 -- ---- the lesser length
@@ -118,9 +120,8 @@ front-same : {p q : List ℕ} → Front p q → SameBytes p q 0 (length p)
 front-same {p} f = record { bytes = λ k h l. rw (f .whole) (sym (List·getD-append p (f .rest) 0 k l)) }
 
 prefix-front : (p q : List ℕ) → isResolved p ≡ true → isResolved q ≡ true → isPrefix p q ≡ true → Front p q
-unfolding isPrefix
 prefix-front p q rp rq h =
-    let f : Front (spell (components p)) (spell (components q)) = spell-front (components p) (components q) h in
+    let f : Front (spell (components p)) (spell (components q)) = spell-front (components p) (components q) (sym (prefix-leads p q) ∙ h) in
     subst₂ Front (spell-components p rp) (spell-components q rq) f
 
 -- where the quick test tells two resolved paths apart, neither is a prefix of the other

@@ -108,6 +108,23 @@ pub gives-stands : {d : Descriptor} {p cwd space after : List ℕ} {r : Resoluti
 gives-stands {d = NoPath} {p = p} {cwd = cwd} {after = after} S e = subst (λ (n : ℕ). Stands NoPath p cwd n after) (none-zero S e) (none-stands p cwd after)
 gives-stands {d = Path} S e = path-given S e
 
+-- ---- a path that is resolved by itself
+
+module _ {p cwd space after : List ℕ} {r : Resolution} (R : Resolves p cwd space r after) where
+  pub resolves-refused : {cause : Refusal} → r ≡ Refused cause → resolved p cwd ≡ refused cause
+  unfolding resolved unless
+  resolves-refused {cause} e = rw (resolution-refused p cwd cause (sym (R .answer) ∙ e))
+
+  resolves-given : {n : ℕ} → r ≡ Resolved n → Given p cwd n
+  resolves-given {n} e = resolution-resolved p cwd n (sym (R .answer) ∙ e)
+
+  pub resolves-ok : {n : ℕ} → r ≡ Resolved n → resolved p cwd ≡ ok (take n after)
+  unfolding resolved unless
+  resolves-ok {n} e = let g = resolves-given e in rw (g .free, given-space p cwd space after n g (R .bytes))
+
+  pub resolves-room : {n : ℕ} → r ≡ Resolved n → n ≤ length after
+  resolves-room {n} e = given-room p cwd space after n (resolves-given e) (R .bytes)
+
 -- ---- what follows from what is given
 
 free-by : (cause : Option Refusal) (path : List ℕ) {q : Query} → andThen (unless cause path) (λ x. ok (queryOf Path x)) ≡ ok q → cause ≡ none

@@ -1,6 +1,8 @@
 pub mod ComponentLaws
 pub mod ResolvingLaws
+pub mod CommonLaws
 pub mod RelationLaws
+pub mod TreeLaws
 pub mod RelatingLaws
 pub mod CopyLaws
 pub mod Scanning

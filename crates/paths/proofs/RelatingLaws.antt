@@ -1,4 +1,4 @@
--- Laws of the one pass over two paths: what a component's end, a byte that both have and a first difference say of how they relate.
+-- Laws of the one pass over two paths: what a component's end, a byte that both have and a first difference say of how they compare.
 use Prim.Native.Nat.{ℕ, _+_, _≤_, _<_}
 use mathlib.Core.Path.{_≡_, refl, sym, ap, ap₂, _∙_}
 use mathlib.Core.List.{List, [], _∷_}
@@ -11,34 +11,49 @@ use lib.Seq.{drop-cons, drop-drop}
 use lib.Dec.{eqb}
 use borrow.Author.Tests.{eq-eqb, ne-eqb, eqb-true, eqb-false}
 use Rattle.paths.specs.Components.{slash, same, grown, parted, pieces, withoutEmpty, components}
-use Rattle.paths.specs.Relations.{leads, isPrefix, numberOrder, orElse, inTurn, pathOrder, relatedBy, relation}
+use Rattle.paths.specs.Relations.{shared, common, numberOrder, orElse, inTurn, pathOrder, relatedBy, relation, comparison}
+use Rattle.paths.specs.CommonPart.{leads}
 use Rattle.paths.specs.Relating.{rankOf, Begins, FirstEnd}
 use Rattle.paths.specs.declared.Relation.{Relation}
 use Rattle.paths.specs.declared.Relation.the-variants.{Equal, Prefix, Extension, Less, Greater}
+use Rattle.paths.specs.declared.Comparison.{Comparison}
 use Rattle.paths.proofs.ComponentLaws.{pieces-byte}
+use Rattle.paths.proofs.CommonLaws.{prefix-leads}
 use Rattle.paths.proofs.RelationLaws.{number-less, number-greater, number-equal}
 
--- ---- how lists of components relate
+-- ---- how lists of components compare
 
-unfoldable pub relationOf : List (List ℕ) → List (List ℕ) → Relation
-relationOf cs ds = relatedBy (leads cs ds) (leads ds cs) (inTurn (inTurn numberOrder) cs ds)
+-- behind n components that both share
+abbrev pub compared : Relation → ℕ → Comparison
+compared r n = record { relation = r; common = n }
 
-relationOf-empty : (cs ds : List (List ℕ)) → relationOf ([] ∷ cs) ([] ∷ ds) ≡ relationOf cs ds
-unfolding relationOf leads same inTurn orElse
-relationOf-empty cs ds = refl
+-- m is the number that is answered
+pub answered : {r : Relation} {m n : ℕ} {c : Comparison} → compared r n ≡ c → m ≡ n → compared r m ≡ c
+answered {r} e f = ap (compared r) f ∙ e
 
-module _ (c d : List ℕ) (cs ds : List (List ℕ)) where
-  relationOf-byte : (a b : ℕ) → a ≡ b → relationOf ((a ∷ c) ∷ cs) ((b ∷ d) ∷ ds) ≡ relationOf (c ∷ cs) (d ∷ ds)
-  unfolding relationOf leads same inTurn orElse
-  relationOf-byte a b e = rw (eq-eqb a b e, eq-eqb b a (sym e), number-equal a b e)
+unfoldable pub comparisonOf : ℕ → List (List ℕ) → List (List ℕ) → Comparison
+comparisonOf n cs ds = compared (relatedBy (leads cs ds) (leads ds cs) (inTurn (inTurn numberOrder) cs ds)) (n + shared cs ds)
 
-  relationOf-less : (a b : ℕ) → a < b → relationOf ((a ∷ c) ∷ cs) ((b ∷ d) ∷ ds) ≡ Less
-  unfolding relationOf leads same inTurn orElse relatedBy
-  relationOf-less a b h = rw (ne-eqb a b (omega arith), ne-eqb b a (omega arith), number-less a b h)
+-- a component that both have, whole
+comparisonOf-empty : (n : ℕ) (cs ds : List (List ℕ)) → comparisonOf n ([] ∷ cs) ([] ∷ ds) ≡ comparisonOf (n + 1) cs ds
+unfolding comparisonOf leads same inTurn orElse shared
+comparisonOf-empty n cs ds = ap (compared _) (omega arith)
 
-  relationOf-greater : (a b : ℕ) → b < a → relationOf ((a ∷ c) ∷ cs) ((b ∷ d) ∷ ds) ≡ Greater
-  unfolding relationOf leads same inTurn orElse relatedBy
-  relationOf-greater a b h = rw (ne-eqb a b (omega arith), ne-eqb b a (omega arith), number-greater a b h)
+none-more : (n : ℕ) (r : Relation) → compared r (n + 0) ≡ compared r n
+none-more n r = ap (compared r) (omega arith)
+
+module _ (n : ℕ) (c d : List ℕ) (cs ds : List (List ℕ)) where
+  comparisonOf-byte : (a b : ℕ) → a ≡ b → comparisonOf n ((a ∷ c) ∷ cs) ((b ∷ d) ∷ ds) ≡ comparisonOf n (c ∷ cs) (d ∷ ds)
+  unfolding comparisonOf leads same inTurn orElse shared
+  comparisonOf-byte a b e = rw (eq-eqb a b e, eq-eqb b a (sym e), number-equal a b e)
+
+  comparisonOf-less : (a b : ℕ) → a < b → comparisonOf n ((a ∷ c) ∷ cs) ((b ∷ d) ∷ ds) ≡ compared Less n
+  unfolding comparisonOf leads same inTurn orElse relatedBy shared
+  comparisonOf-less a b h = rw (ne-eqb a b (omega arith), ne-eqb b a (omega arith), number-less a b h) (none-more n Less)
+
+  comparisonOf-greater : (a b : ℕ) → b < a → comparisonOf n ((a ∷ c) ∷ cs) ((b ∷ d) ∷ ds) ≡ compared Greater n
+  unfolding comparisonOf leads same inTurn orElse relatedBy shared
+  comparisonOf-greater a b h = rw (ne-eqb a b (omega arith), ne-eqb b a (omega arith), number-greater a b h) (none-more n Greater)
 
 -- ---- inside a component
 
@@ -71,45 +86,47 @@ stands (b ∷ p) = go (eqb b slash) refl
     go true e = ends (rw e)
     go false e = stands-byte b p (pieces p) (pieces-byte b p (eqb-false b slash e)) refl
 
--- ---- what two starts say of how the paths relate
+-- ---- what two starts say of how the paths compare
 
 begins-by : {p : List ℕ} {n : ℕ} → Stands p n → 0 < n → components p ≡ inside p
 begins-by (ends e) h = absurd (omega arith)
 begins-by (byte b c cs e f g) h = f ∙ sym e
 
 -- where the other has no components left
-prefix-by : {q : List ℕ} {n : ℕ} → Stands q n → 0 < n → relationOf [] (components q) ≡ Prefix
-unfolding relationOf leads relatedBy
-prefix-by (ends e) h = absurd (omega arith)
-prefix-by (byte b d ds _ f _) h = rw f
+prefix-by : {q : List ℕ} {m : ℕ} (n : ℕ) → Stands q m → 0 < m → comparisonOf n [] (components q) ≡ compared Prefix n
+unfolding comparisonOf leads relatedBy shared
+prefix-by n (ends e) h = absurd (omega arith)
+prefix-by n (byte b d ds _ f _) h = rw f (none-more n Prefix)
 
-extension-by : {p : List ℕ} {n : ℕ} → Stands p n → 0 < n → relationOf (components p) [] ≡ Extension
-unfolding relationOf leads relatedBy
-extension-by (ends e) h = absurd (omega arith)
-extension-by (byte b c cs _ f _) h = rw f
+extension-by : {p : List ℕ} {m : ℕ} (n : ℕ) → Stands p m → 0 < m → comparisonOf n (components p) [] ≡ compared Extension n
+unfolding comparisonOf leads relatedBy shared
+extension-by n (ends e) h = absurd (omega arith)
+extension-by n (byte b c cs _ f _) h = rw f (none-more n Extension)
 
-module _ {p q : List ℕ} where
-  ended-by : {m n : ℕ} → Stands p m → Stands q n → m ≡ 0 → n ≡ 0 → relationOf (inside p) (inside q) ≡ relationOf (components p) (components q)
-  ended-by (ends e) (ends f) h k = rw (e, f) (relationOf-empty _ _)
+module _ {p q : List ℕ} (n : ℕ) where
+  ended-by : {l m : ℕ} → Stands p l → Stands q m → l ≡ 0 → m ≡ 0
+      → comparisonOf n (inside p) (inside q) ≡ comparisonOf (n + 1) (components p) (components q)
+  ended-by (ends e) (ends f) h k = rw (e, f) (comparisonOf-empty n _ _)
   ended-by (ends e) (byte b d ds _ _ _) h k = absurd (omega arith)
   ended-by (byte b c cs _ _ _) v h k = absurd (omega arith)
 
-  shared-by : {m n : ℕ} → Stands p m → Stands q n → m ≡ n → 0 < m → relationOf (inside p) (inside q) ≡ relationOf (inside (drop 1 p)) (inside (drop 1 q))
+  shared-by : {l m : ℕ} → Stands p l → Stands q m → l ≡ m → 0 < l
+      → comparisonOf n (inside p) (inside q) ≡ comparisonOf n (inside (drop 1 p)) (inside (drop 1 q))
   shared-by (ends e) v h k = absurd (omega arith)
   shared-by (byte a c cs e _ f) (ends g) h k = absurd (omega arith)
-  shared-by (byte a c cs e _ f) (byte b d ds g _ i) h k = rw (e, f, g, i) (relationOf-byte c d cs ds a b (omega arith))
+  shared-by (byte a c cs e _ f) (byte b d ds g _ i) h k = rw (e, f, g, i) (comparisonOf-byte n c d cs ds a b (omega arith))
 
-  less-by : {m n : ℕ} → Stands p m → Stands q n → m < n → relationOf (inside p) (inside q) ≡ Less
-  unfolding relationOf leads same inTurn orElse relatedBy
+  less-by : {l m : ℕ} → Stands p l → Stands q m → l < m → comparisonOf n (inside p) (inside q) ≡ compared Less n
+  unfolding comparisonOf leads same inTurn orElse relatedBy shared
   less-by u (ends f) h = absurd (omega arith)
-  less-by (ends e) (byte b d ds f _ _) h = rw (e, f)
-  less-by (byte a c cs e _ _) (byte b d ds f _ _) h = rw (e, f) (relationOf-less c d cs ds a b (omega arith))
+  less-by (ends e) (byte b d ds f _ _) h = rw (e, f) (none-more n Less)
+  less-by (byte a c cs e _ _) (byte b d ds f _ _) h = rw (e, f) (comparisonOf-less n c d cs ds a b (omega arith))
 
-  greater-by : {m n : ℕ} → Stands p m → Stands q n → n < m → relationOf (inside p) (inside q) ≡ Greater
-  unfolding relationOf leads same inTurn orElse relatedBy
+  greater-by : {l m : ℕ} → Stands p l → Stands q m → m < l → comparisonOf n (inside p) (inside q) ≡ compared Greater n
+  unfolding comparisonOf leads same inTurn orElse relatedBy shared
   greater-by (ends e) v h = absurd (omega arith)
-  greater-by (byte a c cs e _ _) (ends f) h = rw (e, f)
-  greater-by (byte a c cs e _ _) (byte b d ds f _ _) h = rw (e, f) (relationOf-greater c d cs ds a b (omega arith))
+  greater-by (byte a c cs e _ _) (ends f) h = rw (e, f) (none-more n Greater)
+  greater-by (byte a c cs e _ _) (byte b d ds f _ _) h = rw (e, f) (comparisonOf-greater n c d cs ds a b (omega arith))
 
 -- ---- what stands at i
 
@@ -152,60 +169,80 @@ rank-same a b = go (eqb a slash) (eqb b slash) refl refl
 
 -- ---- the two loops of `relate`
 
--- i and j lie between components, and the components from there on decide
-pub record Between (p q : List ℕ) (i j : ℕ) : Type 0 where
+-- i and j lie between components, n are shared so far, and the components from there on decide
+pub record Between (p q : List ℕ) (n i j : ℕ) : Type 0 where
   pub left : i ≤ length p
   pub right : j ≤ length q
-  pub decides : relation p q ≡ relationOf (components (drop i p)) (components (drop j q))
+  pub few : n ≤ i
+  pub decides : comparison p q ≡ comparisonOf n (components (drop i p)) (components (drop j q))
 
-pub between-start : (p q : List ℕ) → Between p q 0 0
-unfolding relation isPrefix pathOrder relationOf
-between-start p q = record { left = omega arith; right = omega arith; decides = refl }
-
-module _ {p q : List ℕ} {i j k l : ℕ} (s : Between p q i j) (b : Begins p i k) (d : Begins q j l) where
-  -- slashes passed in both
-  pub between-begins : Between p q k l
-  between-begins = record { left = b .within; right = d .within; decides = rw (b .same, d .same) (s .decides) }
-
-  pub both-end : k ≡ length p → l ≡ length q → Equal ≡ relation p q
-  unfolding relationOf leads relatedBy
-  both-end e f = sym (between-begins .decides ∙ ap₂ relationOf (components-end p k (omega arith)) (components-end q l (omega arith)))
-
-  pub first-ends : k ≡ length p → (l ≡ length q → ⊥) → Prefix ≡ relation p q
-  first-ends e f =
-      sym (between-begins .decides ∙ rw (components-end p k (omega arith)) (prefix-by (stands (drop l q)) (d .begins (omega (arith, d .within)))))
-
-  pub second-ends : (k ≡ length p → ⊥) → l ≡ length q → Extension ≡ relation p q
-  second-ends e f =
-      sym (between-begins .decides ∙ rw (components-end q l (omega arith)) (extension-by (stands (drop k p)) (b .begins (omega (arith, b .within)))))
-
--- i and j lie inside components, that of p begun at i₀, what is left of both decides, and the first path to end does so at `end`
-pub record Inside (p q : List ℕ) (i₀ end i j : ℕ) : Type 0 where
-  pub begun : 0 < rankOf (drop i₀ p)
-  pub behind : i₀ ≤ i
-  pub ends : FirstEnd p i q j end
-  pub decides : relation p q ≡ relationOf (inside (drop i p)) (inside (drop j q))
-
-pub inside-start : {p q : List ℕ} {i j end : ℕ} → Between p q i j → 0 < rankOf (drop i p) → 0 < rankOf (drop j q) → FirstEnd p i q j end → Inside p q i end i j
-inside-start {p} {q} {i} {j} s h k d = record {
-  begun = h;
-  behind = omega arith;
-  ends = d;
-  decides = s .decides ∙ ap₂ relationOf (begins-by (stands (drop i p)) h) (begins-by (stands (drop j q)) k);
+pub between-start : (p q : List ℕ) (n : ℕ) → n ≡ 0 → Between p q n 0 0
+unfolding comparison relation common pathOrder comparisonOf
+between-start p q n e = record {
+  left = omega arith;
+  right = omega arith;
+  few = omega arith;
+  decides = rw (prefix-leads p q, prefix-leads q p) (ap (compared _) (omega arith));
 }
 
+module _ {p q : List ℕ} {n i j k l : ℕ} (s : Between p q n i j) (b : Begins p i k) (d : Begins q j l) where
+  -- slashes passed in both
+  pub between-begins : Between p q n k l
+  between-begins = record {
+    left = b .within;
+    right = d .within;
+    few = omega (arith, s .few, b .behind);
+    decides = rw (b .same, d .same) (s .decides);
+  }
+
+  pub both-end : k ≡ length p → l ≡ length q → compared Equal n ≡ comparison p q
+  unfolding comparisonOf leads relatedBy shared
+  both-end e f = sym (between-begins .decides ∙ ap₂ (comparisonOf n) (components-end p k (omega arith)) (components-end q l (omega arith)) ∙ none-more n Equal)
+
+  pub first-ends : k ≡ length p → (l ≡ length q → ⊥) → compared Prefix n ≡ comparison p q
+  first-ends e f =
+      sym (between-begins .decides ∙ rw (components-end p k (omega arith)) (prefix-by n (stands (drop l q)) (d .begins (omega (arith, d .within)))))
+
+  pub second-ends : (k ≡ length p → ⊥) → l ≡ length q → compared Extension n ≡ comparison p q
+  second-ends e f =
+      sym (between-begins .decides ∙ rw (components-end q l (omega arith)) (extension-by n (stands (drop k p)) (b .begins (omega (arith, b .within)))))
+
+-- i and j lie inside components, that of p begun at i₀, n are shared before it, what is left of both decides, and the first path to end does so at `end`
+pub record Inside (p q : List ℕ) (n i₀ end i j : ℕ) : Type 0 where
+  pub begun : 0 < rankOf (drop i₀ p)
+  pub behind : i₀ ≤ i
+  pub few : n ≤ i₀
+  pub ends : FirstEnd p i q j end
+  pub decides : comparison p q ≡ comparisonOf n (inside (drop i p)) (inside (drop j q))
+
+pub inside-start : {p q : List ℕ} {n i j end : ℕ} → Between p q n i j → 0 < rankOf (drop i p) → 0 < rankOf (drop j q) → FirstEnd p i q j end → Inside p q n i end i j
+inside-start {p} {q} {n} {i} {j} s h k d = record {
+  begun = h;
+  behind = omega arith;
+  few = s .few;
+  ends = d;
+  decides = s .decides ∙ ap₂ (comparisonOf n) (begins-by (stands (drop i p)) h) (begins-by (stands (drop j q)) k);
+}
+
+-- the component that began at i₀ has been left at its end, and is shared
+pub record Shared (p q : List ℕ) (n i₀ i j : ℕ) : Type 0 where
+  pub passed : i₀ < i
+  pub few : n ≤ i₀
+  pub next : Between p q (n + 1) i j
+
 -- a and b are the ranks at i and j
-module _ {p q : List ℕ} {i₀ end i j a b : ℕ} (s : Inside p q i₀ end i j) (e : a ≡ rankOf (drop i p)) (f : b ≡ rankOf (drop j q)) where
-  -- the component that began at i₀ has been left at its end
-  inside-end : a ≡ 0 → b ≡ 0 → (i₀ < i) × Between p q i j
-  inside-end y z = (
-    go (decLt i₀ i),
-    record {
+module _ {p q : List ℕ} {n i₀ end i j a b : ℕ} (s : Inside p q n i₀ end i j) (e : a ≡ rankOf (drop i p)) (f : b ≡ rankOf (drop j q)) where
+  inside-end : a ≡ 0 → b ≡ 0 → Shared p q n i₀ i j
+  inside-end y z = record {
+    passed = beyond;
+    few = s .few;
+    next = record {
       left = omega (arith, s .ends .ahead, s .ends .left);
       right = omega (arith, s .ends .ahead, s .ends .right);
-      decides = s .decides ∙ ended-by (stands (drop i p)) (stands (drop j q)) (omega arith) (omega arith);
-    },
-  )
+      few = omega (arith, beyond, s .few);
+      decides = s .decides ∙ ended-by n (stands (drop i p)) (stands (drop j q)) (omega arith) (omega arith);
+    };
+  }
     where
       go : Dec (i₀ < i) → i₀ < i
       go (yes h) = h
@@ -213,40 +250,44 @@ module _ {p q : List ℕ} {i₀ end i j a b : ℕ} (s : Inside p q i₀ end i j)
           let g : i₀ ≡ i = omega (arith, s .behind) in
           absurd (omega (arith, s .begun, ap (λ (k : ℕ). rankOf (drop k p)) g))
 
+      beyond : i₀ < i
+      beyond = go (decLt i₀ i)
+
   -- where one path ends, the other's component ends too
-  pub inside-last : i ≡ end → a ≡ b → (i₀ < i) × Between p q i j
+  pub inside-last : i ≡ end → a ≡ b → Shared p q n i₀ i j
   inside-last h g = go (decLt i (length p))
     where
-      go : Dec (i < length p) → (i₀ < i) × Between p q i j
+      go : Dec (i < length p) → Shared p q n i₀ i j
       go (yes l) = let z = rank-end q j (omega (arith, s .ends .one (omega arith))) in inside-end (omega arith) (omega arith)
       go (no l) = let z = rank-end p i (omega arith) in inside-end (omega arith) (omega arith)
 
-  pub inside-less : a < b → Less ≡ relation p q
-  inside-less h = sym (s .decides ∙ less-by (stands (drop i p)) (stands (drop j q)) (omega arith))
+  pub inside-less : a < b → compared Less n ≡ comparison p q
+  inside-less h = sym (s .decides ∙ less-by n (stands (drop i p)) (stands (drop j q)) (omega arith))
 
-  pub inside-greater : b < a → Greater ≡ relation p q
-  inside-greater h = sym (s .decides ∙ greater-by (stands (drop i p)) (stands (drop j q)) (omega arith))
+  pub inside-greater : b < a → compared Greater n ≡ comparison p q
+  inside-greater h = sym (s .decides ∙ greater-by n (stands (drop i p)) (stands (drop j q)) (omega arith))
 
 -- neither path has ended
-module _ {p q : List ℕ} {i₀ end i j : ℕ} (s : Inside p q i₀ end i j) (h : i < length p) (k : j < length q) where
-  pub inside-byte : getD p i 0 ≡ getD q j 0 → (getD p i 0 ≡ slash → ⊥) → i < end → Inside p q i₀ end (i + 1) (j + 1)
-  inside-byte e n l =
-      let a = rank-byte p i h n in
-      let b = rank-byte q j k (λ g. n (e ∙ g)) in
+module _ {p q : List ℕ} {n i₀ end i j : ℕ} (s : Inside p q n i₀ end i j) (h : i < length p) (k : j < length q) where
+  pub inside-byte : getD p i 0 ≡ getD q j 0 → (getD p i 0 ≡ slash → ⊥) → i < end → Inside p q n i₀ end (i + 1) (j + 1)
+  inside-byte e m l =
+      let a = rank-byte p i h m in
+      let b = rank-byte q j k (λ g. m (e ∙ g)) in
       record {
         begun = s .begun;
         behind = omega (arith, s .behind);
+        few = s .few;
         ends = record {
           ahead = omega arith;
           left = s .ends .left;
           right = omega (arith, s .ends .right);
           one = λ m. omega (arith, s .ends .one m);
         };
-        decides = s .decides ∙ rw (← drop-drop 1 i p, ← drop-drop 1 j q) (shared-by (stands (drop i p)) (stands (drop j q)) (omega arith) (omega arith));
+        decides = s .decides ∙ rw (← drop-drop 1 i p, ← drop-drop 1 j q) (shared-by n (stands (drop i p)) (stands (drop j q)) (omega arith) (omega arith));
       }
 
-  pub inside-slash : getD p i 0 ≡ getD q j 0 → getD p i 0 ≡ slash → (i₀ < i) × Between p q i j
+  pub inside-slash : getD p i 0 ≡ getD q j 0 → getD p i 0 ≡ slash → Shared p q n i₀ i j
   inside-slash e g = inside-end s (rank-slash p i h g) (rank-slash q j k (sym e ∙ g)) refl refl
 
   pub inside-differs : (getD p i 0 ≡ getD q j 0 → ⊥) → rankOf (drop i p) ≡ rankOf (drop j q) → ⊥
-  inside-differs n e = n (rank-same _ _ (sym (rank-at p i h) ∙ e ∙ rank-at q j k))
+  inside-differs m e = m (rank-same _ _ (sym (rank-at p i h) ∙ e ∙ rank-at q j k))

@@ -12,7 +12,6 @@ use borrow.Author.Tests.{eq-eqb, ne-eqb, lt-ltb, le-ltb}
 use Rattle.paths.specs.Components.{slash, same, parted, pieces, withoutEmpty, components, slashed, spell}
 use Rattle.paths.specs.Resolving.{isResolved}
 use Rattle.paths.specs.Relations.{
-  leads,
   isPrefix,
   less,
   equal,
@@ -23,11 +22,15 @@ use Rattle.paths.specs.Relations.{
   pathOrder,
   relatedBy,
   relation,
+  comparison,
 }
+use Rattle.paths.specs.CommonPart.{leads}
 use Rattle.paths.specs.declared.Relation.{Relation}
 use Rattle.paths.specs.declared.Relation.the-variants.{Equal, Prefix, Extension, Less, Greater}
+use Rattle.paths.specs.declared.Comparison.{Comparison}
 use Rattle.paths.proofs.ComponentLaws.{and-left, and-right, and-both, same-refl, same-eq}
 use Rattle.paths.proofs.ResolvingLaws.{spell-components}
+use Rattle.paths.proofs.CommonLaws.{prefix-leads}
 
 -- ---- prefix
 
@@ -68,22 +71,19 @@ leads-length (c ∷ cs) (d ∷ ds) p =
     )
 
 pub prefix-refl : (p : List ℕ) → isPrefix p p ≡ true
-unfolding isPrefix
-prefix-refl p = leads-refl (components p)
+prefix-refl p = prefix-leads p p ∙ leads-refl (components p)
 
 pub prefix-trans : (p q r : List ℕ) → isPrefix p q ≡ true → isPrefix q r ≡ true → isPrefix p r ≡ true
-unfolding isPrefix
-prefix-trans p q r = leads-trans (components p) (components q) (components r)
+prefix-trans p q r = rw (prefix-leads p q, prefix-leads q r, prefix-leads p r) (leads-trans (components p) (components q) (components r))
 
 -- two paths that are prefixes of each other have the same components
 pub prefix-components : (p q : List ℕ) → isPrefix p q ≡ true → isPrefix q p ≡ true → components p ≡ components q
-unfolding isPrefix
-prefix-components p q = leads-antisym (components p) (components q)
+prefix-components p q = rw (prefix-leads p q, prefix-leads q p) (leads-antisym (components p) (components q))
 
 -- the root is a prefix of all
 pub root-prefix : (q : List ℕ) → isPrefix (slash ∷ []) q ≡ true
-unfolding isPrefix components pieces parted withoutEmpty leads
-root-prefix q = refl
+unfolding components pieces parted withoutEmpty leads
+root-prefix q = prefix-leads (slash ∷ []) q
 
 -- ---- on resolved paths
 
@@ -103,9 +103,8 @@ spell-length (c ∷ cs) (d ∷ ds) p = leads-length (c ∷ cs) (d ∷ ds) p
 
 -- a prefix of a path is no longer than it
 pub prefix-length : (p q : List ℕ) → isResolved p ≡ true → isResolved q ≡ true → isPrefix p q ≡ true → length p ≤ length q
-unfolding isPrefix
 prefix-length p q rp rq h =
-    omega (arith, spell-length (components p) (components q) h, ap length (spell-components p rp), ap length (spell-components q rq))
+    omega (arith, spell-length (components p) (components q) (sym (prefix-leads p q) ∙ h), ap length (spell-components p rp), ap length (spell-components q rq))
 
 -- ---- order, turned round
 
@@ -143,15 +142,17 @@ inTurn-turned order h (x ∷ xs) [] = refl
 inTurn-turned order h (x ∷ xs) (y ∷ ys) =
     ap₂ orElse (h x y) (inTurn-turned order h xs ys) ∙ sym (orElse-turned (order x y) (inTurn order xs ys))
 
+pub bytes-turned : (c d : List ℕ) → inTurn numberOrder d c ≡ negℤ (inTurn numberOrder c d)
+bytes-turned = inTurn-turned numberOrder numberOrder-turned
+
 -- the turned-round question gives the negative
 pub pathOrder-turned : (p q : List ℕ) → pathOrder q p ≡ negℤ (pathOrder p q)
 unfolding pathOrder
-pathOrder-turned p q =
-    inTurn-turned (inTurn numberOrder) (inTurn-turned numberOrder numberOrder-turned) (components p) (components q)
+pathOrder-turned p q = inTurn-turned (inTurn numberOrder) bytes-turned (components p) (components q)
 
 -- ---- what can hold of two lists at once: whether they are the same, and their order
 
-data Ordered : Bool → Bool → ℤ → Type 0 where
+pub data Ordered : Bool → Bool → ℤ → Type 0 where
   alike : Ordered true true equal
   below : Ordered false false less
   above : Ordered false false greater
@@ -170,7 +171,7 @@ ordered-numbers a b = go (decLt a b) (decLt b a)
     go (no h) (yes k) = rw (ne-eqb a b (omega arith), ne-eqb b a (omega arith), number-greater a b k) above
     go (no h) (no k) = rw (eq-eqb a b (omega arith), eq-eqb b a (omega arith), number-equal a b (omega arith)) alike
 
-ordered-bytes : (c d : List ℕ) → Ordered (same c d) (same d c) (inTurn numberOrder c d)
+pub ordered-bytes : (c d : List ℕ) → Ordered (same c d) (same d c) (inTurn numberOrder c d)
 unfolding same inTurn
 ordered-bytes [] [] = alike
 ordered-bytes [] (b ∷ d) = below
@@ -200,8 +201,8 @@ related-components (c ∷ cs) [] = second
 related-components (c ∷ cs) (d ∷ ds) = related-then (ordered-bytes c d) (related-components cs ds)
 
 related : (p q : List ℕ) → Related (isPrefix p q) (isPrefix q p) (pathOrder p q)
-unfolding isPrefix pathOrder
-related p q = related-components (components p) (components q)
+unfolding pathOrder
+related p q = rw (prefix-leads p q, prefix-leads q p) (related-components (components p) (components q))
 
 -- ---- what each answer says
 
@@ -271,26 +272,16 @@ relation-said p q r e = record {
   order = related-order (related p q) ∙ ap saysOrder e;
 }
 
+-- what the comparison finds says both
+pub compared-said : {p q : List ℕ} {r : Comparison} {a : Relation} → r ≡ comparison p q → r .relation ≡ a → Said p q (saysPrefix a) (saysPrefix (turned a)) (saysOrder a)
+unfolding comparison
+compared-said {p} {q} {r} {a} e f = relation-said p q a (sym (ap (λ (c : Comparison). c .relation) e) ∙ f)
+
 module _ (p q : List ℕ) where
-  pub relation-equal : relation p q ≡ Equal → Said p q true true equal
-  relation-equal = relation-said p q Equal
-
-  pub relation-prefix : relation p q ≡ Prefix → Said p q true false less
-  relation-prefix = relation-said p q Prefix
-
-  pub relation-extension : relation p q ≡ Extension → Said p q false true greater
-  relation-extension = relation-said p q Extension
-
-  pub relation-less : relation p q ≡ Less → Said p q false false less
-  relation-less = relation-said p q Less
-
-  pub relation-greater : relation p q ≡ Greater → Said p q false false greater
-  relation-greater = relation-said p q Greater
-
   -- equal is said of the same components
   pub equal-components : relation p q ≡ Equal → components p ≡ components q
-  equal-components e = prefix-components p q (relation-equal e .prefix) (relation-equal e .extension)
+  equal-components e = let s = relation-said p q Equal e in prefix-components p q (s .prefix) (s .extension)
 
   pub components-equal : components p ≡ components q → relation p q ≡ Equal
-  unfolding relation isPrefix relatedBy
-  components-equal e = rw (e, leads-refl (components q))
+  unfolding relation relatedBy
+  components-equal e = rw (prefix-leads p q, prefix-leads q p, e, leads-refl (components q))

@@ -2,6 +2,8 @@ pub mod Components
 pub mod Resolving
 pub mod Giving
 pub mod Relations
+pub mod CommonPart
+pub mod Comparing
 pub mod Relating
 pub mod Copying
 pub mod Scanning

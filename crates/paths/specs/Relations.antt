@@ -1,23 +1,37 @@
--- How two paths relate: prefix by whole components, and path order. Scope, "Paths, at the bottom"; std's documentation of `Path` has both.
+-- How two paths relate: the common part, prefix by whole components, and path order. Scope, "Paths, at the bottom"; std's documentation of `Path` has
+-- components, prefix and order.
 use Prim.Native.Nat.{ℕ, zero, suc}
 use mathlib.Core.List.{List, [], _∷_}
-use mathlib.Core.Bool.{Bool, true, false, _&&_, cond}
+use mathlib.Core.Bool.{Bool, true, false, cond}
 use lib.IntN.{ℤ, pos, negsuc}
+use lib.ListN.{length}
 use lib.Dec.{eqb, ltb}
 use Rattle.paths.specs.Components.{same, components}
 use Rattle.paths.specs.declared.Relation.{Relation}
 use Rattle.paths.specs.declared.Relation.the-variants.{Equal, Prefix, Extension, Less, Greater}
+use Rattle.paths.specs.declared.Comparison.{Comparison}
+
+-- ---- the common part
+
+-- how many leading components two lists share, each whole
+unfoldable pub shared : List (List ℕ) → List (List ℕ) → ℕ
+shared [] ds = 0
+shared (c ∷ cs) [] = 0
+shared (c ∷ cs) (d ∷ ds) = cond (same c d) (suc (shared cs ds)) 0
+
+-- the number of leading components below the root that two paths share
+unfoldable pub common : List ℕ → List ℕ → ℕ
+common p q = shared (components p) (components q)
+
+-- how many components below the root a path has
+unfoldable pub depth : List ℕ → ℕ
+depth p = length (components p)
 
 -- ---- prefix
 
-unfoldable pub leads : List (List ℕ) → List (List ℕ) → Bool
-leads [] ds = true
-leads (c ∷ cs) [] = false
-leads (c ∷ cs) (d ∷ ds) = same c d && leads cs ds
-
--- p is a prefix of q: its components are q's first ones, whole
+-- p is a prefix of q, by whole components: q shares all of p's
 unfoldable pub isPrefix : List ℕ → List ℕ → Bool
-isPrefix p q = leads (components p) (components q)
+isPrefix p q = eqb (common p q) (depth p)
 
 -- ---- order, as −1, 0 or 1
 
@@ -63,3 +77,7 @@ relatedBy false false (negsuc n) = Less
 -- how p relates to q
 unfoldable pub relation : List ℕ → List ℕ → Relation
 relation p q = relatedBy (isPrefix p q) (isPrefix q p) (pathOrder p q)
+
+-- and, beside it, the number of components that both share
+unfoldable pub comparison : List ℕ → List ℕ → Comparison
+comparison p q = record { relation = relation p q; common = common p q }

@@ -24,6 +24,12 @@ pub enum Relation {
     Greater,
 }
 
+// What the comparison of two paths finds: how one relates to the other, and the number of leading components below the root that both share.
+pub struct Comparison {
+    pub relation: Relation,
+    pub common: usize,
+}
+
 // What a call is given: no path, or the path whose bytes are lent beside it.
 pub enum Descriptor {
     NoPath,
@@ -33,5 +39,11 @@ pub enum Descriptor {
 // What resolving a path answers: the length of the resolved path, or why there is none.
 pub enum Resolution {
     Resolved(usize),
+    Refused(Refusal),
+}
+
+// What comparing two paths as given answers: what is found, or why nothing is compared.
+pub enum Compared {
+    Comparison(Comparison),
     Refused(Refusal),
 }

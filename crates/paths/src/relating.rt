@@ -1,9 +1,10 @@
-// How two paths relate, in one pass over both, component by component and byte by byte.
+// How two paths relate and how many components they share, in one pass over both, component by component and byte by byte.
+use crate::Comparison;
 use crate::Relation;
 ghost use mathlib.Core.Path.{_≡_};
 ghost use Prim.Native.Nat.{_+_, _≤_};
 ghost use lib.ListN.{length, drop};
-ghost use Rattle.paths.specs.Relations.{isPrefix, relation};
+ghost use Rattle.paths.specs.Relations.{isPrefix, comparison};
 ghost use Rattle.paths.specs.Relating.{rankOf, Begins, FirstEnd, sameEight, lesserLength, TellsApart};
 
 // How the byte at i compares inside a component: 0 where the component ends, and else one more than the byte.
@@ -47,11 +48,12 @@ fn first_end(p: &[u8], i: usize, q: &[u8], j: usize) -> usize
     }
 }
 
-// How p relates to q: the same components, those of one at the start of the other's, and else by path order. Each turn of the
-// outer loop is over one component of both, each turn of the inner one over one byte of it.
-pub fn relate(p: &[u8], q: &[u8]) -> Relation
-    ensures { λ r. ⌜ r ≡ relation (now (p .entry)) (now (q .entry)) ⌝ }
+// How p relates to q, the same components, those of one at the start of the other's, and else by path order; and how many leading components they
+// share. Each turn of the outer loop is over one component of both, each turn of the inner one over one byte of it.
+pub fn relate(p: &[u8], q: &[u8]) -> Comparison
+    ensures { λ r. ⌜ r ≡ comparison (now (p .entry)) (now (q .entry)) ⌝ }
 {
+    let mut common: usize = 0;
     let mut i = 0;
     let mut j = 0;
     'components: loop {
@@ -59,12 +61,21 @@ pub fn relate(p: &[u8], q: &[u8]) -> Relation
         j = next_component(q, j);
         if i == p.len() {
             if j == q.len() {
-                return Relation::Equal;
+                return Comparison {
+                    relation: Relation::Equal,
+                    common,
+                };
             }
-            return Relation::Prefix;
+            return Comparison {
+                relation: Relation::Prefix,
+                common,
+            };
         }
         if j == q.len() {
-            return Relation::Extension;
+            return Comparison {
+                relation: Relation::Extension,
+                common,
+            };
         }
         let end = first_end(p, i, q, j);
         loop {
@@ -84,11 +95,19 @@ pub fn relate(p: &[u8], q: &[u8]) -> Relation
             i += 1;
             j += 1;
         }
+        // both have this component, whole
+        common += 1;
     }
     if rank(p, i) < rank(q, j) {
-        Relation::Less
+        Comparison {
+            relation: Relation::Less,
+            common,
+        }
     } else {
-        Relation::Greater
+        Comparison {
+            relation: Relation::Greater,
+            common,
+        }
     }
 }
 
@@ -96,7 +115,9 @@ pub fn relate(p: &[u8], q: &[u8]) -> Relation
 pub fn is_prefix(p: &[u8], q: &[u8]) -> bool
     ensures { λ r. ⌜ r ≡ isPrefix (now (p .entry)) (now (q .entry)) ⌝ }
 {
-    match relate(p, q) {
+    let compared = relate(p, q);
+    let relation = compared.relation;
+    match relation {
         Relation::Equal => true,
         Relation::Prefix => true,
         Relation::Extension => false,

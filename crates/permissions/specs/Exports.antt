@@ -7,6 +7,8 @@ use lib.IntN.{ℤ, pos}
 use lib.ListN.{length}
 use Rattle.refusals.specs.Refusals.{Result, refused, ok}
 use Rattle.paths.specs.declared.Descriptor.{Descriptor}
+use Rattle.paths.specs.declared.Compared.{Compared}
+use Rattle.paths.specs.Comparing.{compareAnswer}
 use Rattle.table.specs.declared.Outcome.{Outcome}
 use Rattle.table.specs.declared.Listed.{Listed}
 use Rattle.table.specs.declared.Listed.the-variants.{Nothing}
@@ -45,6 +47,8 @@ use Rattle.permissions.specs.Numbers.{
   isOn,
   questionNumber,
   questionSize,
+  comparedNumber,
+  comparedCommon,
   listedNumber,
   listedKind,
   listedStart,
@@ -93,6 +97,13 @@ pub record ExportedQuestion (call : Call) (m s : List ℕ) (d : Descriptor) (p c
   pub promise : Questions call m s d p cwd s′ answered
   pub number : r ≡ questionNumber answered
   pub text : size ≡ questionSize answered
+
+-- how many leading components two paths share
+pub record ExportedComparison (p q cwd : List ℕ) (common : ℕ) (r : ℤ) : Type 0 where
+  pub answered : Compared
+  pub promise : answered ≡ compareAnswer p q cwd
+  pub number : r ≡ comparedNumber answered
+  pub shared : common ≡ comparedCommon answered
 
 -- how often the operator was asked
 pub record ExportedChild (m c : List ℕ) (code : ℕ) (bytes ends responses cwd m′ c′ : List ℕ) (told : ℕ) (r : ℤ) : Type 0 where

@@ -5,6 +5,10 @@ use lib.Dec.{eqb}
 use lib.IntN.{ℤ, pos, negℤ}
 use Rattle.refusals.specs.declared.Refusal.{Refusal}
 use Rattle.refusals.specs.Refusals.{refusalNumber}
+use Rattle.paths.specs.declared.Relation.{Relation}
+use Rattle.paths.specs.declared.Relation.the-variants as relation
+use Rattle.paths.specs.declared.Compared.{Compared}
+use Rattle.paths.specs.declared.Compared.the-variants as compared
 use Rattle.table.specs.declared.Outcome.{Outcome}
 use Rattle.table.specs.declared.Outcome.the-variants as outcome
 use Rattle.table.specs.declared.Listed.{Listed}
@@ -49,6 +53,23 @@ abbrev pub questionSize : Question → ℕ
 questionSize (question.Asks n) = n
 questionSize question.AsksNothing = 0
 questionSize (question.Refused cause) = 0
+
+-- how a path relates to another
+abbrev pub relationNumber : Relation → ℕ
+relationNumber relation.Equal = 0
+relationNumber relation.Prefix = 1
+relationNumber relation.Extension = 2
+relationNumber relation.Less = 3
+relationNumber relation.Greater = 4
+
+-- that number, or a refusal; and how many leading components they share
+abbrev pub comparedNumber : Compared → ℤ
+comparedNumber (compared.Comparison found) = pos (relationNumber (found .relation))
+comparedNumber (compared.Refused cause) = refusedNumber cause
+
+abbrev pub comparedCommon : Compared → ℕ
+comparedCommon (compared.Comparison found) = found .common
+comparedCommon (compared.Refused cause) = 0
 
 -- a setting is on unless it is 0
 abbrev pub isOn : ℕ → Bool

@@ -40,6 +40,7 @@ ghost use Rattle.permissions.specs.Exports.{
 };
 
 pub mod arriving;
+pub mod comparing;
 pub mod linking;
 pub mod without_path;
 

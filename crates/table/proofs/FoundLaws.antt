@@ -29,7 +29,7 @@ use Rattle.table.specs.Acts.{inserted, wouldAdd, overflows}
 use Rattle.table.proofs.PlacingLaws.{search-inside}
 use Rattle.table.proofs.Puts.{table-inserted}
 use Rattle.paths.specs.Components.{components}
-use Rattle.paths.specs.Relations.{isPrefix, less, equal, greater, numberOrder, orElse, inTurn, pathOrder}
+use Rattle.paths.specs.Relations.{common, depth, isPrefix, less, equal, greater, numberOrder, orElse, inTurn, pathOrder}
 use Rattle.paths.proofs.ComponentLaws.{and-both}
 use Rattle.paths.proofs.RelationLaws.{prefix-refl, number-less, number-greater}
 
@@ -66,7 +66,7 @@ turn-same order h (x ∷ xs) (y ∷ ys) e =
     ap₂ _∷_ (h x y (both .0)) (turn-same order h xs ys (both .1))
 
 path-same : (p q : List ℕ) → pathOrder p q ≡ equal → samePath p q ≡ true
-unfolding pathOrder samePath isPrefix
+unfolding pathOrder samePath isPrefix common depth
 path-same p q e =
     rw (turn-same (inTurn numberOrder) (turn-same numberOrder number-same) (components p) (components q) e)
     (and-both (prefix-refl q) (prefix-refl q))

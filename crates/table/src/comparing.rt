@@ -47,7 +47,9 @@ fn number_order(a: u8, b: u8) -> i8
 fn compare_alike(old: Kind, old_path: &[u8], new: Kind, new_path: &[u8]) -> i8
     ensures { λ r. ⌜ r ≡ compareAlike (record { kind = old; path = now («old_path» .entry) }) (record { kind = new; path = now («new_path» .entry) }) ⌝ }
 {
-    match relate(old_path, new_path) {
+    let compared = relate(old_path, new_path);
+    let relation = compared.relation;
+    match relation {
         Relation::Equal => number_order(kind_precedence(old), kind_precedence(new)),
         Relation::Prefix => 1,
         Relation::Extension => -1,
@@ -60,7 +62,9 @@ fn compare_alike(old: Kind, old_path: &[u8], new: Kind, new_path: &[u8]) -> i8
 fn compare_granted(old_path: &[u8], new_path: &[u8]) -> i8
     ensures { λ r. ⌜ r ≡ grantedOrder (now («old_path» .entry)) (now («new_path» .entry)) ⌝ }
 {
-    match relate(old_path, new_path) {
+    let compared = relate(old_path, new_path);
+    let relation = compared.relation;
+    match relation {
         Relation::Extension => -1,
         Relation::Equal => 1,
         Relation::Prefix => 1,

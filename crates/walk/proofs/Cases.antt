@@ -24,7 +24,7 @@ use Rattle.table.specs.Tables.{has, setBit, clearBit, marked, any}
 use Rattle.table.specs.Acts.{insertedBy, inserted, keptUnless, without, revokedBy, applyAct, applyActs}
 use Rattle.paths.specs.Components.{same, grown, parted, pieces, withoutEmpty, components, slashed, spell}
 use Rattle.paths.specs.Resolving.{isAbsolute, join, entered, enterAll, normalize, resolve}
-use Rattle.paths.specs.Relations.{leads, isPrefix, numberOrder, orElse, inTurn, pathOrder, less}
+use Rattle.paths.specs.Relations.{shared, common, depth, isPrefix, numberOrder, orElse, inTurn, pathOrder, less}
 
 -- whatever the two kinds are
 either : (x : ℤ) (a b : Bool) → cond a (cond b x x) (cond b x x) ≡ x
@@ -42,7 +42,7 @@ unfolding Right bytes entry
     insertedBy inserted keptUnless without revokedBy applyAct applyActs
     same grown parted pieces withoutEmpty components slashed spell
     isAbsolute join entered enterAll normalize resolve
-    leads isPrefix numberOrder orElse inTurn pathOrder
+    shared common depth isPrefix numberOrder orElse inTurn pathOrder
 starred = (
   (refl, (refl, (λ q. refl, tt))),
   (

@@ -96,7 +96,9 @@ fn meet(path: &[u8], q: &[u8], resolved: bool) -> Met
             };
         }
     }
-    match relate(path, q) {
+    let compared = relate(path, q);
+    let relation = compared.relation;
+    match relation {
         Relation::Equal => Met {
             above: true,
             below: true,

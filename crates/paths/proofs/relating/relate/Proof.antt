@@ -1,11 +1,13 @@
--- `relating::relate` meets its contract. The outer loop's invariant: i and j lie between components, and those from there on decide.
--- The inner loop's: i and j lie inside components, and what is left of both decides. Both measures are what is left of the first path. Assumes nothing.
+-- `relating::relate` meets its contract. The outer loop's invariant: i and j lie between components, those before are shared and counted, and those from
+-- there on decide. The inner loop's: i and j lie inside components, and what is left of both decides. Both measures are what is left of the first path.
+-- Assumes nothing.
 use Prim.Native.Nat.{_-_}
 use mathlib.Core.Logic.{⊎-elim}
 use native.Mathlib.Omega.{arith}
 use lib.ListN.{length}
 use borrow.Author.Needs.{needs}
 use Rattle.paths.proofs.RelatingLaws.{
+  answered,
   Between,
   between-start,
   between-begins,
@@ -13,6 +15,7 @@ use Rattle.paths.proofs.RelatingLaws.{
   first-ends,
   second-ends,
   Inside,
+  Shared,
   inside-start,
   inside-last,
   inside-byte,
@@ -25,19 +28,19 @@ use Rattle.paths.proofs.relating.relate.Statement.{statement}
 use Rattle.paths.proofs.relating.relate.Tie as tie
 
 abbrev Inv-loop : tie.InvT-loop
-Inv-loop p q i₀ j₀ end i j = Inside p q i₀ end i j
+Inv-loop p q common i₀ j₀ end i j = Inside p q common i₀ end i j
 
 abbrev μ-loop : tie.MeasureT-loop
-μ-loop p q i₀ j₀ end i j = length p - i
+μ-loop p q common i₀ j₀ end i j = length p - i
 
 abbrev Inv-components : tie.InvT-components
-Inv-components p q i₀ j₀ i j = Between p q i j
+Inv-components p q common₀ i₀ j₀ common i j = Between p q common i j
 
 abbrev μ-components : tie.MeasureT-components
-μ-components p q i₀ j₀ i j = length p - i
+μ-components p q common₀ i₀ j₀ common i j = length p - i
 
 components-holds : tie.Need-components-holds Inv-loop μ-loop Inv-components μ-components
-components-holds c = between-start _ _
+components-holds c = between-start _ _ _ (omega arith)
 
 next-component-requires :
     tie.Need-next-component-requires Inv-loop μ-loop Inv-components μ-components
@@ -50,17 +53,17 @@ next-component-requires-2 c κs = c .before .components .inv .right
 returns : tie.Need-returns Inv-loop μ-loop Inv-components μ-components
 returns c =
     let n = c .before .before in
-    both-end (n .before .before .components .inv) (n .before .next-component .ensures) (n .next-component2 .ensures) (c .before .if1 .taken) (c .if2 .taken)
+    answered (both-end (n .before .before .components .inv) (n .before .next-component .ensures) (n .next-component2 .ensures) (c .before .if1 .taken) (c .if2 .taken)) (omega arith)
 
 returns-2 : tie.Need-returns-2 Inv-loop μ-loop Inv-components μ-components
 returns-2 c =
     let n = c .before .before in
-    first-ends (n .before .before .components .inv) (n .before .next-component .ensures) (n .next-component2 .ensures) (c .before .if1 .taken) (c .if2 .left)
+    answered (first-ends (n .before .before .components .inv) (n .before .next-component .ensures) (n .next-component2 .ensures) (c .before .if1 .taken) (c .if2 .left)) (omega arith)
 
 returns-3 : tie.Need-returns-3 Inv-loop μ-loop Inv-components μ-components
 returns-3 c =
     let n = c .before .before in
-    second-ends (n .before .before .components .inv) (n .before .next-component .ensures) (n .next-component2 .ensures) (c .before .if1 .left) (c .if3 .taken)
+    answered (second-ends (n .before .before .components .inv) (n .before .next-component .ensures) (n .next-component2 .ensures) (c .before .if1 .left) (c .if3 .taken)) (omega arith)
 
 first-end-requires : tie.Need-first-end-requires Inv-loop μ-loop Inv-components μ-components
 first-end-requires c κs = search needs
@@ -78,16 +81,6 @@ rank-requires c κs = search needs
 rank-requires-2 : tie.Need-rank-requires-2 Inv-loop μ-loop Inv-components μ-components
 rank-requires-2 c κs = search needs
 
-components-less : tie.Need-components-less Inv-loop μ-loop Inv-components μ-components
-components-less c =
-    let r = c .before .before in
-    omega (arith, inside-last (r .before .before .loop .inv) (r .rank .ensures) (c .before .rank2 .ensures) (omega arith) (omega arith) .0)
-
-components-again : tie.Need-components-again Inv-loop μ-loop Inv-components μ-components
-components-again c =
-    let r = c .before .before in
-    inside-last (r .before .before .loop .inv) (r .rank .ensures) (c .before .rank2 .ensures) (omega arith) (omega arith) .1
-
 shared-slice-read-if6 : tie.Need-shared-slice-read-if6 Inv-loop μ-loop Inv-components μ-components
 shared-slice-read-if6 c = search needs
 
@@ -97,14 +90,6 @@ shared-slice-read-if6-2 c = search needs
 
 shared-slice-read-if7 : tie.Need-shared-slice-read-if7 Inv-loop μ-loop Inv-components μ-components
 shared-slice-read-if7 c = search needs
-
-components-less-2 : tie.Need-components-less-2 Inv-loop μ-loop Inv-components μ-components
-components-less-2 c =
-    omega (arith, inside-slash (c .before .before .before .before .before .before .loop .inv) (omega arith) (omega arith) (omega arith) (omega arith) .0)
-
-components-again-2 : tie.Need-components-again-2 Inv-loop μ-loop Inv-components μ-components
-components-again-2 c =
-    inside-slash (c .before .before .before .before .before .before .loop .inv) (omega arith) (omega arith) (omega arith) (omega arith) .1
 
 add-i : tie.Need-add-i Inv-loop μ-loop Inv-components μ-components
 add-i c = search needs
@@ -119,6 +104,30 @@ loop-again : tie.Need-loop-again Inv-loop μ-loop Inv-components μ-components
 loop-again c =
     inside-byte (c .before .before .before .before .before .before .loop .inv) (omega arith) (omega arith) (omega arith) (λ e. omega arith) (omega arith)
 
+-- both paths have the component whole: both end with it, or a slash stands behind it in both
+shared :
+    (c : tie.Joined4 Inv-loop μ-loop Inv-components μ-components)
+    → let entry = c .before .before .before .before .before .before .before .before .before .before .args in
+    let turn = c .before .before .before .before .before .before in
+    Shared (entry .p .now) (entry .q .now) (turn .before .components .common) (turn .next-component .result) (c .before .loop .i) (c .before .loop .j)
+shared c =
+    let s = c .before .loop .inv in
+    ⊎-elim (λ w. inside-last s (w .1 .ensures) (w .2 .ensures) (omega arith) (omega (arith, w .3 .left)))
+    (λ w. inside-slash s (omega (arith, w .0 .left)) (omega (arith, w .0 .left)) (omega (arith, w .3 .left)) (omega (arith, w .5 .taken)))
+    (c .if4 .came)
+
+add-common : tie.Need-add-common Inv-loop μ-loop Inv-components μ-components
+add-common c = let s = shared c in omega (arith, s .few, s .passed, s .next .left)
+
+components-less : tie.Need-components-less Inv-loop μ-loop Inv-components μ-components
+components-less c =
+    let turn = c .before .before .before .before .before .before in
+    let s = shared c in
+    omega (arith, s .passed, s .next .left, turn .next-component .ensures .behind)
+
+components-again : tie.Need-components-again Inv-loop μ-loop Inv-components μ-components
+components-again c = shared c .next
+
 rank-requires-3 : tie.Need-rank-requires-3 Inv-loop μ-loop Inv-components μ-components
 rank-requires-3 c κs = search needs
 
@@ -128,14 +137,16 @@ rank-requires-4 c κs = search needs
 returns-4 : tie.Need-returns-4 Inv-loop μ-loop Inv-components μ-components
 returns-4 c =
     let r = c .before in
-    inside-less (r .before .before .before .loop .inv) (r .before .rank3 .ensures) (r .rank4 .ensures) (omega arith)
+    answered (inside-less (r .before .before .before .loop .inv) (r .before .rank3 .ensures) (r .rank4 .ensures) (omega arith)) (omega arith)
 
 returns-5 : tie.Need-returns-5 Inv-loop μ-loop Inv-components μ-components
 returns-5 c =
     let r = c .before in
     let s = r .before .before .before .loop .inv in
-    inside-greater s (r .before .rank3 .ensures) (r .rank4 .ensures)
-    (⊎-elim (λ w. omega (arith, w .1 .ensures, w .2 .ensures)) (λ w. omega (arith, inside-differs s (omega arith) (omega arith) (w .3 .taken))) (r .before .before .if4 .came))
+    answered
+    (inside-greater s (r .before .rank3 .ensures) (r .rank4 .ensures)
+    (⊎-elim (λ w. omega (arith, w .1 .ensures, w .2 .ensures)) (λ w. omega (arith, inside-differs s (omega arith) (omega arith) (w .3 .taken))) (r .before .before .if4 .came)))
+    (omega arith)
 
 pub relate-spec : {M : Type 1} → statement M
 relate-spec =
@@ -155,17 +166,16 @@ relate-spec =
     loop-holds
     rank-requires
     rank-requires-2
-    components-less
-    components-again
     shared-slice-read-if6
     shared-slice-read-if6-2
     shared-slice-read-if7
-    components-less-2
-    components-again-2
     add-i
     add-j
     loop-less
     loop-again
+    add-common
+    components-less
+    components-again
     rank-requires-3
     rank-requires-4
     returns-4

@@ -2,7 +2,7 @@
 use mathlib.Core.Path.{sym, ap₂, _∙_}
 use mir.Syntax.{w8}
 use Rattle.paths.specs.Relations.{numberOrder}
-use Rattle.paths.proofs.RelationLaws.{relation-equal, relation-prefix, relation-extension, relation-less, relation-greater}
+use Rattle.paths.proofs.RelationLaws.{compared-said}
 use Rattle.table.proofs.ComparisonLaws.{alike-said, read-back}
 use borrow.Author.Needs.{needs}
 use Rattle.table.proofs.comparing.compare_alike.Statement.{statement}
@@ -38,19 +38,19 @@ enum-told-5 c = search needs
 returns : tie.Need-returns
 returns c =
     read-back w8 _ (c .number-order .ok) ∙ c .number-order .ensures ∙ ap₂ numberOrder (c .before .before .kind-precedence .ensures) (c .before .kind-precedence2 .ensures)
-    ∙ sym (alike-said _ _ (relation-equal _ _ (sym (c .before .before .before .before .before .relate .ensures) ∙ c .before .before .before .enum-told .given .1)))
+    ∙ sym (alike-said _ _ (compared-said (c .before .before .before .before .before .relate .ensures) (c .before .before .before .enum-told .given .1)))
 
 returns-2 : tie.Need-returns-2
-returns-2 c = sym (alike-said _ _ (relation-prefix _ _ (sym (c .before .before .relate .ensures) ∙ c .enum-told2 .given .1)))
+returns-2 c = sym (alike-said _ _ (compared-said (c .before .before .relate .ensures) (c .enum-told2 .given .1)))
 
 returns-3 : tie.Need-returns-3
-returns-3 c = sym (alike-said _ _ (relation-extension _ _ (sym (c .before .before .relate .ensures) ∙ c .enum-told3 .given .1)))
+returns-3 c = sym (alike-said _ _ (compared-said (c .before .before .relate .ensures) (c .enum-told3 .given .1)))
 
 returns-4 : tie.Need-returns-4
-returns-4 c = sym (alike-said _ _ (relation-less _ _ (sym (c .before .before .relate .ensures) ∙ c .enum-told4 .given .1)))
+returns-4 c = sym (alike-said _ _ (compared-said (c .before .before .relate .ensures) (c .enum-told4 .given .1)))
 
 returns-5 : tie.Need-returns-5
-returns-5 c = sym (alike-said _ _ (relation-greater _ _ (sym (c .before .before .relate .ensures) ∙ c .enum-told5 .given .1)))
+returns-5 c = sym (alike-said _ _ (compared-said (c .before .before .relate .ensures) (c .enum-told5 .given .1)))
 
 pub compare-alike-spec : {M : Type 1} → statement M
 compare-alike-spec =

@@ -1,6 +1,6 @@
 -- `compare_granted` meets its contract: each answer of `relate` gives the order.
-use mathlib.Core.Path.{sym, _∙_}
-use Rattle.paths.proofs.RelationLaws.{relation-equal, relation-prefix, relation-extension, relation-less, relation-greater}
+use mathlib.Core.Path.{sym}
+use Rattle.paths.proofs.RelationLaws.{compared-said}
 use Rattle.table.proofs.ComparisonLaws.{granted-said}
 use borrow.Author.Needs.{needs}
 use Rattle.table.proofs.comparing.compare_granted.Statement.{statement}
@@ -25,19 +25,19 @@ enum-told-5 : tie.Need-enum-told-5
 enum-told-5 c = search needs
 
 returns : tie.Need-returns
-returns c = sym (granted-said _ _ (relation-extension _ _ (sym (c .before .before .relate .ensures) ∙ c .enum-told .given .1)))
+returns c = sym (granted-said _ _ (compared-said (c .before .before .relate .ensures) (c .enum-told .given .1)))
 
 returns-2 : tie.Need-returns-2
-returns-2 c = sym (granted-said _ _ (relation-equal _ _ (sym (c .before .before .relate .ensures) ∙ c .enum-told2 .given .1)))
+returns-2 c = sym (granted-said _ _ (compared-said (c .before .before .relate .ensures) (c .enum-told2 .given .1)))
 
 returns-3 : tie.Need-returns-3
-returns-3 c = sym (granted-said _ _ (relation-prefix _ _ (sym (c .before .before .relate .ensures) ∙ c .enum-told3 .given .1)))
+returns-3 c = sym (granted-said _ _ (compared-said (c .before .before .relate .ensures) (c .enum-told3 .given .1)))
 
 returns-4 : tie.Need-returns-4
-returns-4 c = sym (granted-said _ _ (relation-less _ _ (sym (c .before .before .relate .ensures) ∙ c .enum-told4 .given .1)))
+returns-4 c = sym (granted-said _ _ (compared-said (c .before .before .relate .ensures) (c .enum-told4 .given .1)))
 
 returns-5 : tie.Need-returns-5
-returns-5 c = sym (granted-said _ _ (relation-greater _ _ (sym (c .before .before .relate .ensures) ∙ c .enum-told5 .given .1)))
+returns-5 c = sym (granted-said _ _ (compared-said (c .before .before .relate .ensures) (c .enum-told5 .given .1)))
 
 pub compare-granted-spec : {M : Type 1} → statement M
 compare-granted-spec =

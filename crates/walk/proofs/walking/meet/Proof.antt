@@ -2,7 +2,7 @@
 use mathlib.Core.Path.{sym, _∙_}
 use borrow.Author.Needs.{needs}
 use Rattle.paths.proofs.ApartLaws.{apart-prefix, apart-extension}
-use Rattle.paths.proofs.RelationLaws.{relation-equal, relation-prefix, relation-extension, relation-less, relation-greater}
+use Rattle.paths.proofs.RelationLaws.{compared-said}
 use Rattle.walk.proofs.SeeingLaws.{meets-said}
 use Rattle.walk.proofs.walking.meet.Statement.{statement}
 use Rattle.walk.proofs.walking.meet.Tie as tie
@@ -38,19 +38,19 @@ enum-told-5 : tie.Need-enum-told-5
 enum-told-5 c = search needs
 
 returns-2 : tie.Need-returns-2
-returns-2 c = meets-said (relation-equal _ _ (sym (c .before .before .relate .ensures) ∙ c .enum-told .given .1))
+returns-2 c = meets-said (compared-said (c .before .before .relate .ensures) (c .enum-told .given .1))
 
 returns-3 : tie.Need-returns-3
-returns-3 c = meets-said (relation-prefix _ _ (sym (c .before .before .relate .ensures) ∙ c .enum-told2 .given .1))
+returns-3 c = meets-said (compared-said (c .before .before .relate .ensures) (c .enum-told2 .given .1))
 
 returns-4 : tie.Need-returns-4
-returns-4 c = meets-said (relation-extension _ _ (sym (c .before .before .relate .ensures) ∙ c .enum-told3 .given .1))
+returns-4 c = meets-said (compared-said (c .before .before .relate .ensures) (c .enum-told3 .given .1))
 
 returns-5 : tie.Need-returns-5
-returns-5 c = meets-said (relation-less _ _ (sym (c .before .before .relate .ensures) ∙ c .enum-told4 .given .1))
+returns-5 c = meets-said (compared-said (c .before .before .relate .ensures) (c .enum-told4 .given .1))
 
 returns-6 : tie.Need-returns-6
-returns-6 c = meets-said (relation-greater _ _ (sym (c .before .before .relate .ensures) ∙ c .enum-told5 .given .1))
+returns-6 c = meets-said (compared-said (c .before .before .relate .ensures) (c .enum-told5 .given .1))
 
 pub meet-spec : {M : Type 1} → statement M
 meet-spec =

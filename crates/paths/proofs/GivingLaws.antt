@@ -14,8 +14,12 @@ use Rattle.paths.specs.declared.Descriptor.{Descriptor}
 use Rattle.paths.specs.declared.Descriptor.the-variants.{NoPath, Path}
 use Rattle.paths.specs.declared.Resolution.{Resolution}
 use Rattle.paths.specs.declared.Resolution.the-variants.{Resolved, Refused}
+use Rattle.paths.specs.declared.Comparison.{Comparison}
+use Rattle.paths.specs.declared.Compared.the-variants as compared
 use Rattle.paths.specs.Resolving.{maxPath, resolve, pathConditions, resolvedInto, Resolves}
 use Rattle.paths.specs.Giving.{isPath, resolved, Query, isQuery, queryOf, given, givenSize, givenResolution, givenInto, Gives}
+use Rattle.paths.specs.Relations.{comparison}
+use Rattle.paths.specs.Comparing.{compareCall, comparedOf, compareAnswer}
 use Rattle.paths.proofs.ComponentLaws.{and-both}
 use Rattle.paths.proofs.ResolvingLaws.{resolve-resolved}
 use Rattle.paths.proofs.Answering.{Given, no-cause-short, resolution-resolved, resolution-refused, given-space, given-room}
@@ -124,6 +128,22 @@ module _ {p cwd space after : List ℕ} {r : Resolution} (R : Resolves p cwd spa
 
   pub resolves-room : {n : ℕ} → r ≡ Resolved n → n ≤ length after
   resolves-room {n} e = given-room p cwd space after n (resolves-given e) (R .bytes)
+
+-- ---- two paths that are compared
+
+module _ (p q cwd : List ℕ) where
+  pub compare-first : {cause : Refusal} → resolved p cwd ≡ refused cause → compared.Refused cause ≡ compareAnswer p q cwd
+  unfolding compareAnswer compareCall comparedOf andThen
+  compare-first e = rw e
+
+  pub compare-second : {a : List ℕ} {cause : Refusal} → resolved p cwd ≡ ok a → resolved q cwd ≡ refused cause → compared.Refused cause ≡ compareAnswer p q cwd
+  unfolding compareAnswer compareCall comparedOf andThen
+  compare-second e f = rw (e, f)
+
+  pub compare-found : {a b : List ℕ} {r : Comparison} → resolved p cwd ≡ ok a → resolved q cwd ≡ ok b → r ≡ comparison a b
+      → compared.Comparison r ≡ compareAnswer p q cwd
+  unfolding compareAnswer compareCall comparedOf andThen
+  compare-found e f g = rw (e, f, g)
 
 -- ---- what follows from what is given
 

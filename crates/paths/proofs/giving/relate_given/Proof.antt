@@ -1,9 +1,7 @@
 -- `giving::relate_given` meets its contract: the first path's cause, the second's, or what the comparison of the two resolved paths finds. Assumes nothing.
 use mathlib.Core.Path.{sym}
 use lib.Seq.{length-take-le}
-use Rattle.refusals.specs.Refusals.{andThen}
-use Rattle.paths.specs.Comparing.{compareCall, comparedOf, compareAnswer}
-use Rattle.paths.proofs.GivingLaws.{resolves-refused, resolves-ok, resolves-room}
+use Rattle.paths.proofs.GivingLaws.{resolves-refused, resolves-ok, resolves-room, compare-first, compare-second, compare-found}
 use borrow.Author.Needs.{needs}
 use Rattle.paths.proofs.giving.relate_given.Statement.{statement}
 use Rattle.paths.proofs.giving.relate_given.Tie as tie
@@ -46,28 +44,20 @@ relate-requires : tie.Need-relate-requires
 relate-requires c κs = search needs
 
 returns : tie.Need-returns
-unfolding compareAnswer compareCall comparedOf andThen
-returns c = rw (resolves-refused (c .before .before .before .resolve .ensures) (c .before .cause .given .1))
+returns c = compare-first _ _ _ (resolves-refused (c .before .before .before .resolve .ensures) (c .before .cause .given .1))
 
 returns-2 : tie.Need-returns-2
-unfolding compareAnswer compareCall comparedOf andThen
 returns-2 c =
     let first = c .before .before .before .before .before .before in
-    rw (
-      resolves-ok (first .before .before .resolve .ensures) (first .n .given .1),
-      resolves-refused (c .before .before .before .resolve2 .ensures) (c .before .cause2 .given .1),
-    )
+    compare-second _ _ _ (resolves-ok (first .before .before .resolve .ensures) (first .n .given .1))
+    (resolves-refused (c .before .before .before .resolve2 .ensures) (c .before .cause2 .given .1))
 
 returns-3 : tie.Need-returns-3
-unfolding compareAnswer compareCall comparedOf andThen
 returns-3 c =
     let second = c .before .before .before .before in
     let first = second .before .before .before .before .before in
-    rw (
-      resolves-ok (first .before .before .resolve .ensures) (first .n .given .1),
-      resolves-ok (second .before .before .resolve2 .ensures) (second .m .given .1),
-      c .relate .ensures,
-    )
+    compare-found _ _ _ (resolves-ok (first .before .before .resolve .ensures) (first .n .given .1))
+    (resolves-ok (second .before .before .resolve2 .ensures) (second .m .given .1)) (c .relate .ensures)
 
 pub relate-given-spec : {M : Type 1} → statement M
 relate-given-spec =

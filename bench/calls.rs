@@ -2,14 +2,17 @@
 // the memory test and resolving, beside the Rust's own functions on a resolved
 // descriptor; and linked check and request beside the plain ones. Both sides have
 // the same tables and paths, in one run. A scan, which reads each byte of a table
-// once and does nothing else, is the limit. bench/run builds and runs it.
+// once and does nothing else, is the limit. common compares each path with the
+// first entry's: both sides resolve both, and the Rust counts by std's components.
+// bench/run builds and runs it.
 //
 //   calls CALL                              a table of times and ratios
 //   calls CALL SIDE ENTRIES CASE REPEATS    only runs one side's calls, for counting instructions
 //
-// The sides of query, check, request and insert are rust and rattle, those of
+// The sides of query, check, request, insert and common are rust and rattle, those of
 // linked-check and linked-request plain and linked, those of scan bytes and blocks.
 
+use std::cell::Cell;
 use std::hint::black_box;
 use std::time::Instant;
 
@@ -22,11 +25,11 @@ mod read {
         use super::calls::Table;
         use super::*;
 
-        pub struct Asked(ReadQueryDescriptor<'static>);
+        pub struct Asked(ReadQueryDescriptor<'static>, String);
 
         pub fn resolved(path: &str) -> Asked {
-            let path = Cow::Owned(PathBuf::from(path));
-            Asked(PathQueryDescriptor::new_known_absolute(path).into_read())
+            let resolved = Cow::Owned(PathBuf::from(path));
+            Asked(PathQueryDescriptor::new_known_absolute(resolved).into_read(), path.to_owned())
         }
 
         pub fn query(table: &mut Table, asked: &Asked) -> i32 {
@@ -43,6 +46,12 @@ mod read {
 
         pub fn request(table: &mut Table, asked: &Asked) -> i32 {
             i32::from(table.request(Some(&asked.0)) as u8)
+        }
+
+        pub fn common(_table: &mut Table, asked: &Asked) -> i32 {
+            let given = |path| super::calls::Given { path, directory: b"/" };
+            let shared = super::calls::common(given(asked.1.as_bytes()), given(crate::other().as_bytes()));
+            shared.map_or(-1, |count| count as i32)
         }
 
         // An insert takes a descriptor of its own.
@@ -71,6 +80,10 @@ unsafe extern "C" {
     fn permissions_insert(
         memory: *mut u8, size: usize, kind: u32, path: *const u8, path_size: usize, cwd: *const u8, cwd_size: usize,
     ) -> i32;
+    fn permissions_common(
+        first: *const u8, first_size: usize, second: *const u8, second_size: usize, cwd: *const u8, cwd_size: usize,
+        common: *mut usize,
+    ) -> i32;
     fn permissions_switches(memory: *mut u8, size: usize, switches: u32) -> i32;
     fn permissions_used(memory: *const u8, size: usize) -> i32;
     fn permissions_query(
@@ -94,6 +107,15 @@ unsafe extern "C" {
         cwd_size: usize, answer: u32, text: *mut u8, text_space: usize, records: *mut u32, records_space: usize, asked: *mut u32,
         text_size: *mut usize, records_size: *mut usize,
     ) -> i32;
+}
+
+thread_local! {
+    // the path that the others are compared with
+    static OTHER: Cell<&'static str> = const { Cell::new("/") };
+}
+
+fn other() -> &'static str {
+    OTHER.get()
 }
 
 struct Memory {
@@ -123,6 +145,17 @@ impl Memory {
 
     fn insert_granted(&mut self, path: &str) -> i32 {
         self.insert(0, path)
+    }
+
+    fn common(&mut self, path: &str) -> i32 {
+        let (cwd, other) = (b"/", other());
+        let mut common = 0;
+        let result = unsafe {
+            permissions_common(
+                path.as_ptr(), path.len(), other.as_ptr(), other.len(), cwd.as_ptr(), cwd.len(), &mut common,
+            )
+        };
+        if result < 0 { -1 } else { common as i32 }
     }
 
     // From here on the operator is asked, and allows.
@@ -382,11 +415,15 @@ fn least(sides: &mut [Side; 2]) -> [f64; 2] {
 // Both sides of a call with the case's table. Each path is asked about once: the answers must be equal, and a request or
 // an insert has then inserted what it inserts, so that later ones find the table as it stays.
 fn sides(name: &str, case: &Case) -> [Side; 2] {
+    if name == "common" {
+        OTHER.set(case.entries[0].1.clone().leak());
+    }
     let mut sides = match name {
         "query" => [rust_side(case, read::measured::query), rattle_side(case, Memory::query)],
         "check" => [rust_side(case, read::measured::check), rattle_side(case, Memory::check)],
         "request" => [rust_side(case, read::measured::request), rattle_side(case, Memory::request)],
         "insert" => [rust_side(case, read::measured::insert), rattle_side(case, Memory::insert_granted)],
+        "common" => [rust_side(case, read::measured::common), rattle_side(case, Memory::common)],
         "linked-check" => [rattle_side(case, Memory::check), rattle_side(case, Memory::linked_check)],
         "linked-request" => [rattle_side(case, Memory::request), rattle_side(case, Memory::linked_request)],
         "scan" => return [scan_side(case, Memory::scan_bytes), scan_side(case, Memory::scan_blocks)],
@@ -407,7 +444,7 @@ fn sides(name: &str, case: &Case) -> [Side; 2] {
 
 // The sizes of the tables. A call that inserts a path must find room in the largest.
 fn sizes(name: &str) -> [usize; 3] {
-    if matches!(name, "query" | "check" | "scan") { [40, 200, 256] } else { [40, 200, 240] }
+    if matches!(name, "query" | "check" | "scan" | "common") { [40, 200, 256] } else { [40, 200, 240] }
 }
 
 fn main() {
@@ -432,6 +469,7 @@ fn main() {
     let cases: &[&str] = match plain {
         None if name == "scan" => &["realistic", "worst"],
         None if name == "insert" => &["realistic", "present"],
+        None if name == "common" => &["realistic", "worst"],
         None => &["realistic", "worst", "below"],
         Some(_) => &["realistic", "worst", "asked", "longest"],
     };

@@ -33,17 +33,12 @@ sharing (c ∷ cs) (d ∷ ds) = by (same c d) refl (sharing cs ds)
 
 -- ---- what they share
 
-pub sharing-left : {cs ds : List (List ℕ)} {n : ℕ} → Sharing cs ds n → n ≤ length cs
-sharing-left first-ends = omega arith
-sharing-left second-ends = omega arith
-sharing-left (parts e) = omega arith
-sharing-left (more s) = omega (arith, sharing-left s)
-
-pub sharing-right : {cs ds : List (List ℕ)} {n : ℕ} → Sharing cs ds n → n ≤ length ds
-sharing-right first-ends = omega arith
-sharing-right second-ends = omega arith
-sharing-right (parts e) = omega arith
-sharing-right (more s) = omega (arith, sharing-right s)
+-- both have so many
+pub sharing-within : {cs ds : List (List ℕ)} {n : ℕ} → Sharing cs ds n → (n ≤ length cs) × (n ≤ length ds)
+sharing-within first-ends = (omega arith, omega arith)
+sharing-within second-ends = (omega arith, omega arith)
+sharing-within (parts e) = (omega arith, omega arith)
+sharing-within (more s) = let w = sharing-within s in (omega (arith, w .0), omega (arith, w .1))
 
 pub sharing-same : {cs ds : List (List ℕ)} {n : ℕ} → Sharing cs ds n → take n cs ≡ take n ds
 sharing-same first-ends = refl

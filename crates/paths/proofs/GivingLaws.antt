@@ -83,36 +83,7 @@ path-stands p cwd space after n g e =
       bytes = λ _. same;
     }
 
--- ---- what the code's answer tells
-
-module _ {p cwd space after : List ℕ} {r : Resolution} where
-  none-zero : {n : ℕ} → Gives NoPath p cwd space r after → r ≡ Resolved n → 0 ≡ n
-  unfolding givenResolution
-  none-zero S e = cc (S .answer)
-
-  none-refused : {cause : Refusal} → Gives NoPath p cwd space r after → r ≡ Refused cause → given NoPath p cwd ≡ refused cause
-  unfolding givenResolution
-  none-refused S e = let z : _≡_ {A = ℕ} 0 1 = cc (S .answer) in absurd (omega arith)
-
-  path-refused : {cause : Refusal} → Gives Path p cwd space r after → r ≡ Refused cause → given Path p cwd ≡ refused cause
-  unfolding givenResolution given resolved andThen unless
-  path-refused {cause} S e = rw (resolution-refused p cwd cause (sym (S .answer) ∙ e))
-
-  path-given : {n : ℕ} → Gives Path p cwd space r after → r ≡ Resolved n → Stands Path p cwd n after
-  unfolding givenResolution givenInto
-  path-given {n} S e = path-stands p cwd space after n (resolution-resolved p cwd n (sym (S .answer) ∙ e)) (S .bytes)
-
-pub gives-refused : {d : Descriptor} {p cwd space after : List ℕ} {r : Resolution} {cause : Refusal}
-    → Gives d p cwd space r after → r ≡ Refused cause → given d p cwd ≡ refused cause
-gives-refused {d = NoPath} S e = none-refused S e
-gives-refused {d = Path} S e = path-refused S e
-
-pub gives-stands : {d : Descriptor} {p cwd space after : List ℕ} {r : Resolution} {n : ℕ}
-    → Gives d p cwd space r after → r ≡ Resolved n → Stands d p cwd n after
-gives-stands {d = NoPath} {p = p} {cwd = cwd} {after = after} S e = subst (λ (n : ℕ). Stands NoPath p cwd n after) (none-zero S e) (none-stands p cwd after)
-gives-stands {d = Path} S e = path-given S e
-
--- ---- a path that is resolved by itself
+-- ---- what the code's answer tells, of a path that is resolved by itself
 
 module _ {p cwd space after : List ℕ} {r : Resolution} (R : Resolves p cwd space r after) where
   pub resolves-refused : {cause : Refusal} → r ≡ Refused cause → resolved p cwd ≡ refused cause
@@ -128,6 +99,38 @@ module _ {p cwd space after : List ℕ} {r : Resolution} (R : Resolves p cwd spa
 
   pub resolves-room : {n : ℕ} → r ≡ Resolved n → n ≤ length after
   resolves-room {n} e = given-room p cwd space after n (resolves-given e) (R .bytes)
+
+-- ---- and of what is given
+
+module _ {p cwd space after : List ℕ} {r : Resolution} where
+  none-zero : {n : ℕ} → Gives NoPath p cwd space r after → r ≡ Resolved n → 0 ≡ n
+  unfolding givenResolution
+  none-zero S e = cc (S .answer)
+
+  none-refused : {cause : Refusal} → Gives NoPath p cwd space r after → r ≡ Refused cause → given NoPath p cwd ≡ refused cause
+  unfolding givenResolution
+  none-refused S e = let z : _≡_ {A = ℕ} 0 1 = cc (S .answer) in absurd (omega arith)
+
+  path-resolves : Gives Path p cwd space r after → Resolves p cwd space r after
+  unfolding givenResolution givenInto
+  path-resolves S = record { answer = S .answer; bytes = S .bytes }
+
+  path-refused : {cause : Refusal} → Gives Path p cwd space r after → r ≡ Refused cause → given Path p cwd ≡ refused cause
+  unfolding given andThen
+  path-refused S e = rw (resolves-refused (path-resolves S) e)
+
+  path-given : {n : ℕ} → Gives Path p cwd space r after → r ≡ Resolved n → Stands Path p cwd n after
+  path-given {n} S e = let R = path-resolves S in path-stands p cwd space after n (resolves-given R e) (R .bytes)
+
+pub gives-refused : {d : Descriptor} {p cwd space after : List ℕ} {r : Resolution} {cause : Refusal}
+    → Gives d p cwd space r after → r ≡ Refused cause → given d p cwd ≡ refused cause
+gives-refused {d = NoPath} S e = none-refused S e
+gives-refused {d = Path} S e = path-refused S e
+
+pub gives-stands : {d : Descriptor} {p cwd space after : List ℕ} {r : Resolution} {n : ℕ}
+    → Gives d p cwd space r after → r ≡ Resolved n → Stands d p cwd n after
+gives-stands {d = NoPath} {p = p} {cwd = cwd} {after = after} S e = subst (λ (n : ℕ). Stands NoPath p cwd n after) (none-zero S e) (none-stands p cwd after)
+gives-stands {d = Path} S e = path-given S e
 
 -- ---- two paths that are compared
 

@@ -227,7 +227,6 @@ inside-start {p} {q} {n} {i} {j} s h k d = record {
 -- the component that began at i₀ has been left at its end, and is shared
 pub record Shared (p q : List ℕ) (n i₀ i j : ℕ) : Type 0 where
   pub passed : i₀ < i
-  pub few : n ≤ i₀
   pub next : Between p q (n + 1) i j
 
 -- a and b are the ranks at i and j
@@ -235,7 +234,6 @@ module _ {p q : List ℕ} {n i₀ end i j a b : ℕ} (s : Inside p q n i₀ end 
   inside-end : a ≡ 0 → b ≡ 0 → Shared p q n i₀ i j
   inside-end y z = record {
     passed = beyond;
-    few = s .few;
     next = record {
       left = omega (arith, s .ends .ahead, s .ends .left);
       right = omega (arith, s .ends .ahead, s .ends .right);

@@ -19,8 +19,7 @@ use Rattle.paths.proofs.CommonLaws.{
   parts,
   more,
   sharing,
-  sharing-left,
-  sharing-right,
+  sharing-within,
   sharing-same,
   sharing-greatest,
   leads-shared,
@@ -33,7 +32,7 @@ shares : (p q : List ℕ) → SameBranch (common p q) p q
 unfolding common depth
 shares p q =
     let s = sharing (components p) (components q) in
-    record { left = sharing-left s; right = sharing-right s; same = sharing-same s }
+    record { left = sharing-within s .0; right = sharing-within s .1; same = sharing-same s }
 
 greatest : (p q : List ℕ) (n : ℕ) → SameBranch n p q → n ≤ common p q
 unfolding common depth

@@ -117,7 +117,7 @@ shared c =
     (c .if4 .came)
 
 add-common : tie.Need-add-common Inv-loop μ-loop Inv-components μ-components
-add-common c = let s = shared c in omega (arith, s .few, s .passed, s .next .left)
+add-common c = let s = shared c in omega (arith, s .next .few, s .next .left)
 
 components-less : tie.Need-components-less Inv-loop μ-loop Inv-components μ-components
 components-less c =

@@ -14,9 +14,9 @@ use Rattle.paths.specs.Giving.{isPath}
 use Rattle.paths.proofs.ByteLaws.{bytes-take, bytes-drop}
 use Rattle.paths.proofs.ComponentLaws.{and-left, and-right}
 use Rattle.table.specs.declared.Kind.{Kind}
-use Rattle.table.specs.Entries.{Entry, kindNumber}
+use Rattle.table.specs.Entries.{Entry, kindNumber, maxKind}
 use Rattle.table.specs.Tables.{Table, maxEntries, maxSwitches, pathBytes, isEntry, every, isTable}
-use Rattle.table.specs.Memory.{wordAt, lenAt, nextAt, entriesAt, tableOf}
+use Rattle.table.specs.Memory.{tableHead, entryHead, wordAt, lenAt, nextAt, entriesAt, tableOf}
 use Rattle.table.specs.Carrying.{maxNumber}
 use Rattle.table.proofs.TableLaws.{valid-parts, marks-small}
 use Rattle.table.proofs.Within.{kind-number, number-small}
@@ -85,7 +85,7 @@ few-words t ok = let K = valid-parts t ok in omega (arith, entries-few (t .entri
 
 -- ---- entries read back
 
-module _ (kind size : ℕ) (few : kind ≤ 3) (some-byte : 1 ≤ size) (short : size ≤ maxPath) where
+module _ (kind size : ℕ) (few : kind ≤ maxKind) (some-byte : 1 ≤ size) (short : size ≤ maxPath) where
   entry-kind : kindBits (entryWord kind size) ≡ kind
   entry-kind = omega arith
 
@@ -173,8 +173,8 @@ image-read {i} W =
 entries-at : (m : List ℕ) → Bytes m → (n at : ℕ) → PathBytes (entriesAt m n at)
 unfolding entriesAt
 entries-at m B zero at = no-entry
-entries-at m B (suc n) at = entry-more (bytes-take (lenAt m at) _ (bytes-drop (at + 3) m B)) (entries-at m B n (nextAt m at))
+entries-at m B (suc n) at = entry-more (bytes-take (lenAt m at) _ (bytes-drop (at + entryHead) m B)) (entries-at m B n (nextAt m at))
 
 pub entries-bytes : (m : List ℕ) → Bytes m → PathBytes (tableOf m .entries)
 unfolding tableOf
-entries-bytes m B = entries-at m B (wordAt m 0) 4
+entries-bytes m B = entries-at m B (wordAt m 0) tableHead

@@ -9,7 +9,7 @@ use lib.Seq.{take-at}
 use Rattle.paths.specs.Copying.{begun, overwrite, Appends}
 use Rattle.table.specs.declared.Kind.{Kind}
 use Rattle.table.specs.Entries.{Entry}
-use Rattle.table.specs.Memory.{tableBytes, headBytes, encodeEntry, encodeAll}
+use Rattle.table.specs.Memory.{tableHead, entryHead, tableBytes, headBytes, encodeEntry, encodeAll}
 use Rattle.table.proofs.TableLaws.{valid-parts}
 use Rattle.table.proofs.Codec.{length-encodeEntry, length-encode, length-encodeAll}
 use Rattle.table.proofs.Overwrites.{appends-none, appends-as, appends-more}
@@ -45,7 +45,7 @@ split e (some r) q =
 pub record Loading (ws : List ℕ) (es : List Entry) (m m′ : List ℕ) (from at left : ℕ) : Type 0 where
   pub rest : List Entry
   pub reads : readEntries left (drop from ws) ≡ some (record { value = rest; rest = [] })
-  pub goes : {m″ : List ℕ} {end : ℕ} → Appends (encodeAll rest) m′ at m″ end → Appends (encodeAll es) m 4 m″ end
+  pub goes : {m″ : List ℕ} {end : ℕ} → Appends (encodeAll rest) m′ at m″ end → Appends (encodeAll es) m tableHead m″ end
   pub room : at + length (encodeAll rest) ≤ length m′
   pub same : length m′ ≡ length m
 
@@ -54,7 +54,7 @@ abbrev pub entriesOf : {image : Option Image} {switches marks count : ℕ} → I
 entriesOf R = R .value .table .entries
 
 pub loading-start : {ws : List ℕ} {switches marks count : ℕ} (R : IsRead (readImage ws) switches marks count) (m : List ℕ) → tableBytes ≤ length m
-    → Loading ws (entriesOf R) m m 3 4 count
+    → Loading ws (entriesOf R) m m 3 tableHead count
 unfolding imageWords
 loading-start {ws} R m long =
     let es = entriesOf R in
@@ -95,7 +95,7 @@ module _ {ws : List ℕ} {es : List Entry} {m m′ : List ℕ} {from at left : �
     unfolding encodeAll
     sizes = ap (λ (x : List Entry). length (encodeAll x)) (here .all) ∙ length-append (encodeEntry (E .entry)) (encodeAll (here .others))
 
-    pub loading-fits : at + 3 + length (E .entry .path) ≤ length m′
+    pub loading-fits : at + entryHead + length (E .entry .path) ≤ length m′
     loading-fits = omega (arith, L .room, sizes, length-encodeEntry (E .entry))
 
     pub loading-next : {p m″ : List ℕ} {at′ : ℕ} → p ≡ E .entry .path → Appends (encodeEntry (record { kind = kind; path = p })) m′ at m″ at′
@@ -111,7 +111,7 @@ module _ {ws : List ℕ} {es : List Entry} {m m′ : List ℕ} {from at left : �
           same = same ∙ L .same;
         }
 
-  pub loading-over : left ≤ 0 → Appends (encodeAll es) m 4 m′ at
+  pub loading-over : left ≤ 0 → Appends (encodeAll es) m tableHead m′ at
   unfolding encodeAll
   loading-over h =
       let none-left : L .rest ≡ [] =
@@ -121,7 +121,7 @@ module _ {ws : List ℕ} {es : List Entry} {m m′ : List ℕ} {from at left : �
 
 -- the table is the image's
 pub loaded : (ws : List ℕ) {m m′ m″ : List ℕ} {switches marks count at : ℕ} (R : IsRead (readImage ws) switches marks count) → tableBytes ≤ length m
-    → Appends (encodeAll (entriesOf R)) m 4 m′ at → m″ ≡ overwrite m′ 0 (headBytes count switches marks) → m″ ≡ loadedBy (readImage ws) m
+    → Appends (encodeAll (entriesOf R)) m tableHead m′ at → m″ ≡ overwrite m′ 0 (headBytes count switches marks) → m″ ≡ loadedBy (readImage ws) m
 unfolding loadedBy
 loaded ws {m} R long A e =
     put-by (R .value .table) m (image-writable ws (R .is) .within) long A (rw (← R .same-switches, ← R .same-marks, ← R .same-count) e) ∙ rw (R .is)

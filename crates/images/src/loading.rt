@@ -2,7 +2,7 @@
 use crate::EntryRead;
 use crate::reading::read_entry;
 use paths::MAX_PATH;
-use table::HEAD;
+use table::TABLE_HEAD;
 use table::writing::append_entry;
 use table::writing::write_head;
 ghost use mathlib.Core.Path.{_≡_};
@@ -20,7 +20,7 @@ pub fn load_table(words: &[u32], switches: u8, marks: u8, count: usize, mem: &mu
 {
     let mut space = [0u8; MAX_PATH];
     let mut from: usize = 3;
-    let mut at: usize = HEAD;
+    let mut at: usize = TABLE_HEAD;
     let mut left = count;
     while left > 0 {
         let EntryRead::Entry(kind, n, end) = read_entry(words, from, &mut space) else {

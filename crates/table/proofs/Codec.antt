@@ -13,6 +13,11 @@ use Rattle.table.specs.Entries.{Entry}
 use Rattle.paths.specs.Components.{Bytes}
 use Rattle.table.specs.Tables.{Table, pathBytes}
 use Rattle.table.specs.Memory.{
+  tableHead,
+  entryHead,
+  switchesAt,
+  marksAt,
+  lengthOffset,
   wordAt,
   lenAt,
   nextAt,
@@ -21,7 +26,7 @@ use Rattle.table.specs.Memory.{
   offsetAt,
   tableOf,
   holds,
-  word,
+  headBytes,
   encodeEntry,
   encodeAll,
   encode,
@@ -31,16 +36,16 @@ use Rattle.table.proofs.Within.{held, Here, rest-start, here-suc, rest-
 
 -- ---- encodings
 
-pub length-encodeEntry : (e : Entry) → length (encodeEntry e) ≡ length (e .path) + 3
+pub length-encodeEntry : (e : Entry) → length (encodeEntry e) ≡ length (e .path) + entryHead
 unfolding encodeEntry
 length-encodeEntry e = omega arith
 
-pub length-encodeAll : (es : List Entry) → length (encodeAll es) ≡ 3 * length es + pathBytes es
+pub length-encodeAll : (es : List Entry) → length (encodeAll es) ≡ entryHead * length es + pathBytes es
 unfolding encodeAll pathBytes
 length-encodeAll [] = refl
 length-encodeAll (e ∷ es) = simp length-append (omega (arith, length-encodeEntry e, length-encodeAll es))
 
-pub length-encode : (t : Table) → length (encode t) ≡ 4 + 3 * length (t .entries) + pathBytes (t .entries)
+pub length-encode : (t : Table) → length (encode t) ≡ tableHead + entryHead * length (t .entries) + pathBytes (t .entries)
 unfolding encode
 length-encode t = omega (arith, length-encodeAll (t .entries))
 
@@ -52,35 +57,35 @@ encodeAll-append (e ∷ a) b =
 
 -- a table's encoding from its parts
 pub head-of : (t : Table) (n : ℕ) (l : List ℕ) (a b : ℕ) → length (t .entries) ≡ n → encodeAll (t .entries) ≡ l
-    → t .switches ≡ a → t .marks ≡ b → encode t ≡ word n ++ a ∷ b ∷ l
+    → t .switches ≡ a → t .marks ≡ b → encode t ≡ headBytes n a b ++ l
 unfolding encode
 head-of t n l a b p q u v = rw (p, q, u, v)
 
 -- ---- entries in memory
 
-three : (m : List ℕ) (at : ℕ) → at + 3 ≤ length m
-    → drop at m ≡ getD m at 0 ∷ getD m (at + 1) 0 ∷ getD m (at + 1 + 1) 0 ∷ drop (at + 3) m
-three m at h =
+entry-split : (m : List ℕ) (at : ℕ) → at + entryHead ≤ length m
+    → drop at m ≡ getD m at 0 ∷ getD m (at + lengthOffset) 0 ∷ getD m (at + lengthOffset + 1) 0 ∷ drop (at + entryHead) m
+entry-split m at h =
     simp towards-suc
     (drop-cons m at 0 (omega arith)
     ∙ ap (λ (l : List ℕ). getD m at 0 ∷ l)
     (drop-cons m (suc at) 0 (omega arith) ∙ ap (λ (l : List ℕ). getD m (suc at) 0 ∷ l) (drop-cons m (suc (suc at)) 0 (omega arith))))
 
 -- the bytes from an entry on are that entry's, and those from the next entry on
-pub entry-law : (m : List ℕ) (at : ℕ) → getD m (at + 1 + 1) 0 < 256 → Here m at
+pub entry-law : (m : List ℕ) (at : ℕ) → getD m (at + lengthOffset + 1) 0 < 256 → Here m at
     → drop at m ≡ encodeEntry (entryAt m at) ++ drop (nextAt m at) m
 unfolding encodeEntry
 entry-law m at low h =
-    three m at (omega arith)
+    entry-split m at (omega arith)
     ∙ simp (
       number-kind (getD m at 0) (h .kind),
       length-path m at (h .inside),
-      digits-div (getD m (at + 1) 0) low,
-      digits-mod (getD m (at + 1) 0) low,
+      digits-div (getD m (at + lengthOffset) 0) low,
+      digits-mod (getD m (at + lengthOffset) 0) low,
     )
-    (ap (λ (l : List ℕ). getD m at 0 ∷ getD m (at + 1) 0 ∷ getD m (at + 1 + 1) 0 ∷ l)
-    (sym (take-append-drop (lenAt m at) (drop (at + 3) m))
-    ∙ ap (λ (l : List ℕ). take (lenAt m at) (drop (at + 3) m) ++ l) (drop-drop (lenAt m at) (at + 3) m)))
+    (ap (λ (l : List ℕ). getD m at 0 ∷ getD m (at + lengthOffset) 0 ∷ getD m (at + lengthOffset + 1) 0 ∷ l)
+    (sym (take-append-drop (lenAt m at) (drop (at + entryHead) m))
+    ∙ ap (λ (l : List ℕ). take (lenAt m at) (drop (at + entryHead) m) ++ l) (drop-drop (lenAt m at) (at + entryHead) m)))
 
 -- n entries from `at` on are their encodings, and then comes what lies behind them
 pub entries-law : (m : List ℕ) (n at : ℕ) → Bytes m → Rest m n at
@@ -88,7 +93,7 @@ pub entries-law : (m : List ℕ) (n at : ℕ) → Bytes m → Rest m n at
 unfolding encodeAll entriesAt offsetAt
 entries-law m zero at b r = refl
 entries-law m (suc n) at b r =
-    entry-law m at (b .each (at + 1 + 1)) (here-suc r)
+    entry-law m at (b .each (at + lengthOffset + 1)) (here-suc r)
     ∙ ap (λ (l : List ℕ). encodeEntry (entryAt m at) ++ l) (entries-law m n (nextAt m at) b (rest-suc r))
     ∙ sym (append-assoc (encodeEntry (entryAt m at)) (encodeAll (entriesAt m n (nextAt m at))) (drop (offsetAt m n (nextAt m at)) m))
 
@@ -134,42 +139,46 @@ entry-nth m (suc k) (suc n) at d h = entry-nth m k n (nextAt m at) d (le-of-suc-
 -- ---- the entries of the table that memory says
 
 module _ (m : List ℕ) (k : ℕ) (le : k ≤ wordAt m 0) where
-  pub take-entries : take k (tableOf m .entries) ≡ entriesAt m k 4
+  pub take-entries : take k (tableOf m .entries) ≡ entriesAt m k tableHead
   unfolding tableOf
-  take-entries = ap (take k) (entries-split m k (wordAt m 0) 4 le) ∙ take-at (entriesAt m k 4) _ k (length-entries m k 4)
+  take-entries = ap (take k) (entries-split m k (wordAt m 0) tableHead le) ∙ take-at (entriesAt m k tableHead) _ k (length-entries m k tableHead)
 
-  pub drop-entries : drop k (tableOf m .entries) ≡ entriesAt m (wordAt m 0 - k) (offsetAt m k 4)
+  pub drop-entries : drop k (tableOf m .entries) ≡ entriesAt m (wordAt m 0 - k) (offsetAt m k tableHead)
   unfolding tableOf
-  drop-entries = ap (drop k) (entries-split m k (wordAt m 0) 4 le) ∙ drop-at (entriesAt m k 4) _ k (length-entries m k 4)
+  drop-entries = ap (drop k) (entries-split m k (wordAt m 0) tableHead le) ∙ drop-at (entriesAt m k tableHead) _ k (length-entries m k tableHead)
 
-four : (m : List ℕ) → 4 ≤ length m → m ≡ getD m 0 0 ∷ getD m 1 0 ∷ getD m 2 0 ∷ getD m 3 0 ∷ drop 4 m
-four m h =
+-- the bytes before the entries one by one, and then l
+abbrev pub afterHead : List ℕ → List ℕ → List ℕ
+afterHead m l = getD m 0 0 ∷ getD m 1 0 ∷ getD m switchesAt 0 ∷ getD m marksAt 0 ∷ l
+
+head-split : (m : List ℕ) → tableHead ≤ length m → m ≡ afterHead m (drop tableHead m)
+head-split m h =
     drop-cons m 0 0 (omega arith)
     ∙ ap (λ (l : List ℕ). getD m 0 0 ∷ l)
     (drop-cons m 1 0 (omega arith)
     ∙ ap (λ (l : List ℕ). getD m 1 0 ∷ l)
-    (drop-cons m 2 0 (omega arith) ∙ ap (λ (l : List ℕ). getD m 2 0 ∷ l) (drop-cons m 3 0 (omega arith))))
+    (drop-cons m switchesAt 0 (omega arith) ∙ ap (λ (l : List ℕ). getD m switchesAt 0 ∷ l) (drop-cons m marksAt 0 (omega arith))))
 
 module _ (m : List ℕ) (bytes : Bytes m) (h : holds m ≡ true) (k : ℕ) (le : k ≤ wordAt m 0) where
   -- memory up to the k-th entry
-  pub front : take (offsetAt m k 4) m ≡ getD m 0 0 ∷ getD m 1 0 ∷ getD m 2 0 ∷ getD m 3 0 ∷ encodeAll (entriesAt m k 4)
+  pub front : take (offsetAt m k tableHead) m ≡ afterHead m (encodeAll (entriesAt m k tableHead))
   front =
-      let r : Rest m k 4 = rest-take m k (wordAt m 0) 4 le (rest-start m h) in
-      let H : List ℕ = getD m 0 0 ∷ getD m 1 0 ∷ getD m 2 0 ∷ getD m 3 0 ∷ encodeAll (entriesAt m k 4) in
-      let whole : m ≡ H ++ drop (offsetAt m k 4) m =
-      four m (omega (arith, held m h .long))
-      ∙ ap (λ (l : List ℕ). getD m 0 0 ∷ getD m 1 0 ∷ getD m 2 0 ∷ getD m 3 0 ∷ l) (entries-law m k 4 bytes r)
+      let r : Rest m k tableHead = rest-take m k (wordAt m 0) tableHead le (rest-start m h) in
+      let H : List ℕ = afterHead m (encodeAll (entriesAt m k tableHead)) in
+      let whole : m ≡ H ++ drop (offsetAt m k tableHead) m =
+      head-split m (omega (arith, held m h .long))
+      ∙ ap (afterHead m) (entries-law m k tableHead bytes r)
       in
-      let size : length H ≡ offsetAt m k 4 = omega (arith, entries-size m k 4 r) in
-      ap (take (offsetAt m k 4)) whole ∙ take-at H (drop (offsetAt m k 4) m) (offsetAt m k 4) size
+      let size : length H ≡ offsetAt m k tableHead = omega (arith, entries-size m k tableHead r) in
+      ap (take (offsetAt m k tableHead)) whole ∙ take-at H (drop (offsetAt m k tableHead) m) (offsetAt m k tableHead) size
 
   -- memory from the k-th entry to the end of the entries
-  pub tail : take (offsetAt m (wordAt m 0) 4 - offsetAt m k 4) (drop (offsetAt m k 4) m)
-      ≡ encodeAll (entriesAt m (wordAt m 0 - k) (offsetAt m k 4))
+  pub tail : take (offsetAt m (wordAt m 0) tableHead - offsetAt m k tableHead) (drop (offsetAt m k tableHead) m)
+      ≡ encodeAll (entriesAt m (wordAt m 0 - k) (offsetAt m k tableHead))
   tail =
       let n = wordAt m 0 in
-      let at = offsetAt m k 4 in
-      let r : Rest m (n - k) at = rest-drop m k n 4 le (rest-start m h) in
+      let at = offsetAt m k tableHead in
+      let r : Rest m (n - k) at = rest-drop m k n tableHead le (rest-start m h) in
       let E = encodeAll (entriesAt m (n - k) at) in
-      let size : length E ≡ offsetAt m n 4 - at = omega (arith, entries-size m (n - k) at r, offset-split m k n 4 le) in
-      ap (take (offsetAt m n 4 - at)) (entries-law m (n - k) at bytes r) ∙ take-at E _ _ size
+      let size : length E ≡ offsetAt m n tableHead - at = omega (arith, entries-size m (n - k) at r, offset-split m k n tableHead le) in
+      ap (take (offsetAt m n tableHead - at)) (entries-law m (n - k) at bytes r) ∙ take-at E _ _ size

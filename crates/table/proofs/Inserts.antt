@@ -13,6 +13,10 @@ use Rattle.table.specs.Placing.{placedAt}
 use Rattle.table.specs.Tables.{marked, maxEntries, maxPathBytes, pathBytes}
 use Rattle.table.specs.Acts.{insertedBy}
 use Rattle.table.specs.Memory.{
+  tableHead,
+  entryHead,
+  switchesAt,
+  marksAt,
   tableBytes,
   wordAt,
   entriesAt,
@@ -20,6 +24,7 @@ use Rattle.table.specs.Memory.{
   tableOf,
   holds,
   word,
+  headBytes,
   encodeEntry,
   encodeAll,
   encode,
@@ -42,16 +47,16 @@ use Rattle.table.proofs.Overwrites.{over-below, headed}
 use Rattle.table.proofs.Puts.{put-self, count-of, length-inserted}
 
 -- a kind's mark alone, whatever the path
-pub mark-law : (m : List ℕ) → Bytes m → holds m ≡ true → (e : Entry) (n : ℕ) → n ≡ marked (e .kind) (getD m 3 0)
-    → set m 3 n ≡ put (insertedBy Found (tableOf m) e) m
+pub mark-law : (m : List ℕ) → Bytes m → holds m ≡ true → (e : Entry) (n : ℕ) → n ≡ marked (e .kind) (getD m marksAt 0)
+    → set m marksAt n ≡ put (insertedBy Found (tableOf m) e) m
 unfolding put encode insertedBy placedAt tableOf
-mark-law m b h e n q = rw q (ap (λ (l : List ℕ). set l 3 (marked (e .kind) (getD m 3 0))) (sym (put-self m b h)))
+mark-law m b h e n q = rw q (ap (λ (l : List ℕ). set l marksAt (marked (e .kind) (getD m marksAt 0))) (sym (put-self m b h)))
 
 -- where the k-th entry and the end of the entries stand, with room for an entry with a path of `more` bytes
 pub record Room (m : List ℕ) (k more : ℕ) : Type 0 where
-  pub head : 4 ≤ offsetAt m k 4
-  pub order : offsetAt m k 4 ≤ offsetAt m (wordAt m 0) 4
-  pub behind : offsetAt m (wordAt m 0) 4 + 3 + more ≤ tableBytes
+  pub head : tableHead ≤ offsetAt m k tableHead
+  pub order : offsetAt m k tableHead ≤ offsetAt m (wordAt m 0) tableHead
+  pub behind : offsetAt m (wordAt m 0) tableHead + entryHead + more ≤ tableBytes
   pub long : tableBytes ≤ length m
 
 pub room : (m : List ℕ) → holds m ≡ true → (k more : ℕ) → k ≤ wordAt m 0 → wordAt m 0 < maxEntries
@@ -59,41 +64,39 @@ pub room : (m : List ℕ) → holds m ≡ true → (k more : ℕ) → k ≤ word
 unfolding tableOf
 room m h k more le few fits =
     let n = wordAt m 0 in
-    let start = offsetAt m k 4 in
+    let start = offsetAt m k tableHead in
     let r = rest-start m h in
     record {
-      head = omega (arith, entries-size m k 4 (rest-take m k n 4 le r));
-      order = omega (arith, entries-size m (n - k) start (rest-drop m k n 4 le r), offset-split m k n 4 le);
-      behind = omega (arith, entries-size m n 4 r, length-encodeAll (entriesAt m n 4), length-entries m n 4);
+      head = omega (arith, entries-size m k tableHead (rest-take m k n tableHead le r));
+      order = omega (arith, entries-size m (n - k) start (rest-drop m k n tableHead le r), offset-split m k n tableHead le);
+      behind = omega (arith, entries-size m n tableHead r, length-encodeAll (entriesAt m n tableHead), length-entries m n tableHead);
       long = held m h .long;
     }
 
 module _ (m : List ℕ) (bytes : Bytes m) (h : holds m ≡ true) (k : ℕ) (le : k ≤ wordAt m 0) (e : Entry) where
   tail-inside : Room m k (length (e .path))
-      → offsetAt m k 4 + length (encodeEntry e) + length (encodeAll (entriesAt m (wordAt m 0 - k) (offsetAt m k 4))) ≤ length m
+      → offsetAt m k tableHead + length (encodeEntry e) + length (encodeAll (entriesAt m (wordAt m 0 - k) (offsetAt m k tableHead))) ≤ length m
   tail-inside R =
       let n = wordAt m 0 in
       omega (
         arith,
         length-encodeEntry e,
-        entries-size m (n - k) (offsetAt m k 4) (rest-drop m k n 4 le (rest-start m h)),
-        offset-split m k n 4 le,
+        entries-size m (n - k) (offsetAt m k tableHead) (rest-drop m k n tableHead le (rest-start m h)),
+        offset-split m k n tableHead le,
         R .behind,
         R .long,
       )
 
   entries-inserted : encodeAll (insertedBy (At k) (tableOf m) e .entries)
-      ≡ encodeAll (entriesAt m k 4) ++ (encodeEntry e ++ encodeAll (entriesAt m (wordAt m 0 - k) (offsetAt m k 4)))
+      ≡ encodeAll (entriesAt m k tableHead) ++ (encodeEntry e ++ encodeAll (entriesAt m (wordAt m 0 - k) (offsetAt m k tableHead)))
   unfolding insertedBy placedAt
   entries-inserted =
       rw (take-entries m k le, drop-entries m k le)
-      (encodeAll-append (entriesAt m k 4) (e ∷ entriesAt m (wordAt m 0 - k) (offsetAt m k 4)) ∙ unfold encodeAll in refl)
+      (encodeAll-append (entriesAt m k tableHead) (e ∷ entriesAt m (wordAt m 0 - k) (offsetAt m k tableHead)) ∙ unfold encodeAll in refl)
 
   encode-inserted : encode (insertedBy (At k) (tableOf m) e)
-      ≡ word (wordAt m 0 + 1)
-      ++ getD m 2 0
-      ∷ marked (e .kind) (getD m 3 0)
-      ∷ (encodeAll (entriesAt m k 4) ++ (encodeEntry e ++ encodeAll (entriesAt m (wordAt m 0 - k) (offsetAt m k 4))))
+      ≡ headBytes (wordAt m 0 + 1) (getD m switchesAt 0) (marked (e .kind) (getD m marksAt 0))
+      ++ (encodeAll (entriesAt m k tableHead) ++ (encodeEntry e ++ encodeAll (entriesAt m (wordAt m 0 - k) (offsetAt m k tableHead))))
   unfolding insertedBy tableOf
   encode-inserted =
       let count : length (insertedBy (At k) (tableOf m) e .entries) ≡ wordAt m 0 + 1 =
@@ -103,13 +106,15 @@ module _ (m : List ℕ) (bytes : Bytes m) (h : holds m ≡ true) (k : ℕ) (le :
 
   -- the entries from the k-th on are moved, then the entry, the count and the mark are written, by the numbers that were Found
   pub insert-steps : (start end n mark : ℕ) (l₁ l₂ l₃ : List ℕ) → Room m k (length (e .path))
-      → start ≡ offsetAt m k 4 → end ≡ offsetAt m (wordAt m 0) 4 → n ≡ wordAt m 0 → mark ≡ marked (e .kind) (getD m 3 0)
-      → l₁ ≡ overwrite m (start + 3 + length (e .path)) (take (end - start) (drop start m)) → l₂ ≡ overwrite l₁ start (encodeEntry e)
-      → l₃ ≡ overwrite l₂ 0 (word (n + 1)) → set l₃ 3 mark ≡ put (insertedBy (At k) (tableOf m) e) m
+      → start ≡ offsetAt m k tableHead → end ≡ offsetAt m (wordAt m 0) tableHead → n ≡ wordAt m 0 → mark ≡ marked (e .kind) (getD m marksAt 0)
+      → l₁ ≡ overwrite m (start + entryHead + length (e .path)) (take (end - start) (drop start m)) → l₂ ≡ overwrite l₁ start (encodeEntry e)
+      → l₃ ≡ overwrite l₂ 0 (word (n + 1)) → set l₃ marksAt mark ≡ put (insertedBy (At k) (tableOf m) e) m
   unfolding put
   insert-steps start end n mark l₁ l₂ l₃ R a d c b p q r =
-      let place : offsetAt m k 4 + 3 + length (e .path) ≡ offsetAt m k 4 + length (encodeEntry e) = omega (arith, length-encodeEntry e) in
+      let place : offsetAt m k tableHead + entryHead + length (e .path) ≡ offsetAt m k tableHead + length (encodeEntry e) =
+      omega (arith, length-encodeEntry e)
+      in
       rw (r, q, p, a, d, c, b, place, tail m bytes h k le, encode-inserted)
-      (ap (λ (l : List ℕ). set l 3 (marked (e .kind) (getD m 3 0)))
-      (ap (λ (l : List ℕ). overwrite l 0 (word (wordAt m 0 + 1))) (over-below m (offsetAt m k 4) (encodeEntry e) _ (tail-inside R))
-      ∙ headed m _ _ _ _ _ _ (offsetAt m k 4) _ _ (front m bytes h k le) (omega (arith, tail-inside R))))
+      (ap (λ (l : List ℕ). set l marksAt (marked (e .kind) (getD m marksAt 0)))
+      (ap (λ (l : List ℕ). overwrite l 0 (word (wordAt m 0 + 1))) (over-below m (offsetAt m k tableHead) (encodeEntry e) _ (tail-inside R))
+      ∙ headed m _ _ _ _ (offsetAt m k tableHead) _ _ (front m bytes h k le) (omega (arith, tail-inside R))))

@@ -10,7 +10,7 @@ use Rattle.paths.specs.Components.{Bytes}
 use Rattle.table.specs.declared.Listed.the-variants as listed-as
 use Rattle.table.specs.Entries.{Entry}
 use Rattle.table.specs.Tables.{maxEntries}
-use Rattle.table.specs.Memory.{tableBytes, wordAt, nextAt, offsetAt, tableOf, holds, encode, put}
+use Rattle.table.specs.Memory.{tableHead, entryHead, tableBytes, wordAt, nextAt, offsetAt, tableOf, holds, encode, put}
 use Rattle.table.specs.Listing.{usedBytes, listedAt, listed}
 use Rattle.table.proofs.Within.{held, rest-start, rest-drop, rest-here, length-path}
 use Rattle.table.proofs.Codec.{entry-nth}
@@ -20,10 +20,10 @@ use Rattle.table.proofs.Puts.{count-of, valid-of, encode-front, length-
 
 module _ (m : List ℕ) (b : Bytes m) (h : holds m ≡ true) where
   -- it ends where its entries end
-  pub used-end : {n end : ℕ} → n ≡ wordAt m 0 → end ≡ offsetAt m n 4 → (end ≡ usedBytes (tableOf m)) × (end ≤ tableBytes)
+  pub used-end : {n end : ℕ} → n ≡ wordAt m 0 → end ≡ offsetAt m n tableHead → (end ≡ usedBytes (tableOf m)) × (end ≤ tableBytes)
   unfolding usedBytes
   used-end {n} {end} e f =
-      let same : end ≡ length (encode (tableOf m)) = f ∙ ap (λ (k : ℕ). offsetAt m k 4) e ∙ sym (length-encoded m b h) in
+      let same : end ≡ length (encode (tableOf m)) = f ∙ ap (λ (k : ℕ). offsetAt m k tableHead) e ∙ sym (length-encoded m b h) in
       (same, omega (arith, same, encode-fits (tableOf m) (valid-of m h)))
 
   -- its bytes are the table's encoding, and nothing else
@@ -49,10 +49,10 @@ unfolding listed
 listed-none m place e p = rw (count-of m, ← e, le-ltb _ _ p)
 
 -- the entry at a place before the list's end begins at an offset
-module _ (m : List ℕ) (h : holds m ≡ true) (place : ℕ) {count at : ℕ} (e : count ≡ wordAt m 0) (f : at ≡ offsetAt m place 4) (p : place < count) where
+module _ (m : List ℕ) (h : holds m ≡ true) (place : ℕ) {count at : ℕ} (e : count ≡ wordAt m 0) (f : at ≡ offsetAt m place tableHead) (p : place < count) where
   -- it lies within the memory
   pub place-inside : nextAt m at ≤ length m
-  place-inside = rw f (rest-here (omega (arith, e)) (rest-drop m place (wordAt m 0) 4 (omega (arith, e)) (rest-start m h)) .inside)
+  place-inside = rw f (rest-here (omega (arith, e)) (rest-drop m place (wordAt m 0) tableHead (omega (arith, e)) (rest-start m h)) .inside)
 
   pub listed-here : listedAt m at ≡ listed m place
   unfolding listed
@@ -70,11 +70,11 @@ pub listed-entry : (m : List ℕ) → holds m ≡ true → (place : ℕ) (d : En
 unfolding listedAt tableOf
 listed-entry m h place d p =
     let before : place < wordAt m 0 = omega (arith, count-of m) in
-    let at = offsetAt m place 4 in
+    let at = offsetAt m place tableHead in
     let size = length-path m at (place-inside m h place refl refl before) in
-    rw (entry-nth m place (wordAt m 0) 4 d before)
+    rw (entry-nth m place (wordAt m 0) tableHead d before)
     (record {
-      start = at + 3;
+      start = at + entryHead;
       says = rw size (sym (listed-here m h place refl refl before));
       bytes = rw size;
       inside = rw size (place-inside m h place refl refl before);

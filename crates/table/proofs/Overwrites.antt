@@ -10,7 +10,7 @@ use lib.Seq.{sets, sets-eq, drop-at, take-append-le, drop-append-add, take-take,
 use Rattle.paths.specs.Copying.{overwrite, begun, Appends}
 use Rattle.paths.proofs.CopyLaws.{length-front, take-over}
 use Rattle.table.specs.Entries.{Entry, kindNumber}
-use Rattle.table.specs.Memory.{encodeEntry}
+use Rattle.table.specs.Memory.{entryHead, encodeEntry}
 
 pub over-sets : (vs l : List ℕ) (i : ℕ) → i + length vs ≤ length l → sets l i vs ≡ overwrite l i vs
 unfolding overwrite
@@ -66,25 +66,25 @@ over-below m at s s′ h =
     (sym (append-assoc (take at m ++ s) s′ _)
     ∙ ap (λ (l : List ℕ). l ++ drop (at + length s + length s′) m) (append-assoc (take at m) s s′))
 
--- an entry's three bytes stored one by one, and then its path
-stores : (m : List ℕ) (at k a b : ℕ) → at + 3 ≤ length m
+-- the bytes of an entry's head stored one by one, and then its path
+stores : (m : List ℕ) (at k a b : ℕ) → at + entryHead ≤ length m
     → set (set (set m at k) (at + 1) a) (at + 2) b ≡ overwrite m at (k ∷ a ∷ b ∷ [])
 stores m at k a b h = simp towards-suc (over-sets (k ∷ a ∷ b ∷ []) m at h)
 
-pub written : (m : List ℕ) (at : ℕ) (e : Entry) (n : ℕ) → at + 3 + length (e .path) ≤ length m → n ≡ kindNumber (e .kind)
-    → overwrite (set (set (set m at n) (at + 1) (length (e .path) / 256)) (at + 2) (length (e .path) % 256)) (at + 3) (e .path)
+pub written : (m : List ℕ) (at : ℕ) (e : Entry) (n : ℕ) → at + entryHead + length (e .path) ≤ length m → n ≡ kindNumber (e .kind)
+    → overwrite (set (set (set m at n) (at + 1) (length (e .path) / 256)) (at + 2) (length (e .path) % 256)) (at + entryHead) (e .path)
     ≡ overwrite m at (encodeEntry e)
 unfolding encodeEntry
 written m at e n h k =
     rw (stores m at n (length (e .path) / 256) (length (e .path) % 256) (omega arith), k)
     (over-above m at (kindNumber (e .kind) ∷ length (e .path) / 256 ∷ length (e .path) % 256 ∷ []) (e .path) (omega arith))
 
--- s is written from `at` on, and then the first two bytes of a head of four
-pub headed : (m : List ℕ) (h₀ h₁ h₂ h₃ : ℕ) (l s : List ℕ) (at a b : ℕ) → take at m ≡ h₀ ∷ h₁ ∷ h₂ ∷ h₃ ∷ l → at ≤ length m
-    → overwrite (overwrite m at s) 0 (a ∷ b ∷ []) ≡ (a ∷ b ∷ h₂ ∷ h₃ ∷ (l ++ s)) ++ drop (length (a ∷ b ∷ h₂ ∷ h₃ ∷ (l ++ s))) m
+-- s is written from `at` on, and then the first two bytes of what lies before it
+pub headed : (m : List ℕ) (h₀ h₁ : ℕ) (l s : List ℕ) (at a b : ℕ) → take at m ≡ h₀ ∷ h₁ ∷ l → at ≤ length m
+    → overwrite (overwrite m at s) 0 (a ∷ b ∷ []) ≡ (a ∷ b ∷ (l ++ s)) ++ drop (length (a ∷ b ∷ (l ++ s))) m
 unfolding overwrite
-headed m h₀ h₁ h₂ h₃ l s at a b f i =
-    let size : at + length s ≡ length (a ∷ b ∷ h₂ ∷ h₃ ∷ (l ++ s)) =
+headed m h₀ h₁ l s at a b f i =
+    let size : at + length s ≡ length (a ∷ b ∷ (l ++ s)) =
     simp length-append (omega (arith, sym (length-take-le at m i) ∙ ap length f))
     in
     rw (f, size)

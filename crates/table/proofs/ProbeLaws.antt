@@ -16,7 +16,7 @@ use Rattle.table.specs.Entries.{Entry, compare}
 use Rattle.table.specs.Placing.{isAfter, searchFrom, search, placeBy, place}
 use Rattle.table.specs.Tables.{maxEntries, maxPathBytes, pathBytes}
 use Rattle.table.specs.Acts.{insertedBy, inserted, adds, wouldAdd, hasRoom, overflows, applyAct}
-use Rattle.table.specs.Memory.{wordAt, nextAt, entryAt, entriesAt, offsetAt, tableOf, areWithin, holds, put, doAct}
+use Rattle.table.specs.Memory.{tableHead, entryHead, wordAt, nextAt, entryAt, entriesAt, offsetAt, tableOf, areWithin, holds, put, doAct}
 use Rattle.table.specs.Changing.{SearchEnds, InsertsEntry}
 use Rattle.table.proofs.ComparisonLaws.{Sign, minus, none, plus, compare-sign}
 use Rattle.table.proofs.PlacingLaws.{search-done, search-turn, search-inside}
@@ -59,12 +59,12 @@ place-after base plus h k = absurd (k refl)
 -- ---- the entry at a place of the list
 
 module _ (m : List ℕ) (k : ℕ) (lt : k < wordAt m 0) where
-  entry-at : (d : Entry) → getD (tableOf m .entries) k d ≡ entryAt m (offsetAt m k 4)
+  entry-at : (d : Entry) → getD (tableOf m .entries) k d ≡ entryAt m (offsetAt m k tableHead)
   unfolding tableOf
-  entry-at d = entry-nth m k (wordAt m 0) 4 d lt
+  entry-at d = entry-nth m k (wordAt m 0) tableHead d lt
 
-  entry-inside : holds m ≡ true → nextAt m (offsetAt m k 4) ≤ length m
-  entry-inside h = rest-here (omega arith) (rest-drop m k (wordAt m 0) 4 (omega arith) (rest-start m h)) .inside
+  entry-inside : holds m ≡ true → nextAt m (offsetAt m k tableHead) ≤ length m
+  entry-inside h = rest-here (omega arith) (rest-drop m k (wordAt m 0) tableHead (omega arith) (rest-start m h)) .inside
 
 -- ---- the search
 
@@ -72,9 +72,9 @@ module _ (m : List ℕ) (k : ℕ) (lt : k < wordAt m 0) where
 pub record Probing (m : List ℕ) (e : Entry) (base at size : ℕ) : Type 0 where
   pub within : base + size ≤ wordAt m 0
   pub goes : search (tableOf m .entries) e ≡ searchFrom (tableOf m .entries) e (wordAt m 0) base size
-  pub begins : at ≡ offsetAt m base 4
+  pub begins : at ≡ offsetAt m base tableHead
 
-pub probing-start : (m : List ℕ) (e : Entry) {n : ℕ} → n ≡ wordAt m 0 → Probing m e 0 4 n
+pub probing-start : (m : List ℕ) (e : Entry) {n : ℕ} → n ≡ wordAt m 0 → Probing m e 0 tableHead n
 unfolding search offsetAt
 probing-start m e q = record { within = omega arith; goes = rw (q, count-of m); begins = refl }
 
@@ -90,12 +90,12 @@ module _ {m : List ℕ} {e : Entry} {base at size : ℕ} (P : Probing m e base a
   half-within h =
       let le : base ≤ wordAt m 0 = omega arith in
       rw (P .begins)
-      (rest-take m (size / 2) (wordAt m 0 - base) (offsetAt m base 4) (omega arith) (rest-drop m base (wordAt m 0) 4 le (rest-start m h)) .within)
+      (rest-take m (size / 2) (wordAt m 0 - base) (offsetAt m base tableHead) (omega arith) (rest-drop m base (wordAt m 0) tableHead le (rest-start m h)) .within)
 
-  half-offset : {middle : ℕ} → middle ≡ offsetAt m (size / 2) at → middle ≡ offsetAt m (base + size / 2) 4
+  half-offset : {middle : ℕ} → middle ≡ offsetAt m (size / 2) at → middle ≡ offsetAt m (base + size / 2) tableHead
   half-offset q =
       let s : base + size / 2 - base ≡ size / 2 = omega arith in
-      q ∙ ap (offsetAt m (size / 2)) (P .begins) ∙ sym (rw s at (offset-split m base (base + size / 2) 4 (omega arith)))
+      q ∙ ap (offsetAt m (size / 2)) (P .begins) ∙ sym (rw s at (offset-split m base (base + size / 2) tableHead (omega arith)))
 
   pub half-inside : {middle : ℕ} → middle ≡ offsetAt m (size / 2) at → holds m ≡ true → nextAt m middle ≤ length m
   half-inside q h = rw (half-offset q) (entry-inside m (base + size / 2) (omega arith) h)
@@ -191,13 +191,13 @@ place-inside (x ∷ es) e {k} q =
 
 module _ (m : List ℕ) (h : holds m ≡ true) where
   -- where the entries end, by their count and path bytes
-  entries-end : offsetAt m (wordAt m 0) 4 ≡ 4 + 3 * wordAt m 0 + pathBytes (tableOf m .entries)
+  entries-end : offsetAt m (wordAt m 0) tableHead ≡ tableHead + entryHead * wordAt m 0 + pathBytes (tableOf m .entries)
   unfolding tableOf
   entries-end =
       let n = wordAt m 0 in
-      omega (arith, entries-size m n 4 (rest-start m h), length-encodeAll (entriesAt m n 4), length-entries m n 4)
+      omega (arith, entries-size m n tableHead (rest-start m h), length-encodeAll (entriesAt m n tableHead), length-entries m n tableHead)
 
-  pub ended : {n end : ℕ} → n ≡ wordAt m 0 → end ≡ offsetAt m n 4 → end ≡ 4 + 3 * n + pathBytes (tableOf m .entries)
+  pub ended : {n end : ℕ} → n ≡ wordAt m 0 → end ≡ offsetAt m n tableHead → end ≡ tableHead + entryHead * n + pathBytes (tableOf m .entries)
   ended q r = r ∙ rw q entries-end
 
   pub path-limit : pathBytes (tableOf m .entries) ≤ maxPathBytes
@@ -217,11 +217,11 @@ leb-moved a b c h = go (decLt c (a + b))
 
 -- fewer entries than the limit: the path bytes decide
 pub room-by : (m : List ℕ) (e : Entry) {n end len : ℕ} → n ≡ wordAt m 0 → n < maxEntries
-    → end ≡ 4 + 3 * n + pathBytes (tableOf m .entries) → pathBytes (tableOf m .entries) ≤ maxPathBytes → length (e .path) ≡ len
-    → hasRoom (tableOf m) e ≡ leb len (maxPathBytes - (end - 4 - 3 * n))
+    → end ≡ tableHead + entryHead * n + pathBytes (tableOf m .entries) → pathBytes (tableOf m .entries) ≤ maxPathBytes → length (e .path) ≡ len
+    → hasRoom (tableOf m) e ≡ leb len (maxPathBytes - (end - tableHead - entryHead * n))
 unfolding hasRoom
 room-by m e {n} {end} {len} q h b l p =
-    let bytes : end - 4 - 3 * n ≡ pathBytes (tableOf m .entries) = omega arith in
+    let bytes : end - tableHead - entryHead * n ≡ pathBytes (tableOf m .entries) = omega arith in
     rw (lt-ltb (length (tableOf m .entries)) maxEntries (omega (arith, count-of m)), bytes, p)
     (leb-moved (pathBytes (tableOf m .entries)) len maxPathBytes l)
 

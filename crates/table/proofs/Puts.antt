@@ -1,8 +1,8 @@
 -- The laws that carry everything above: memory that holds a table is `put` of it, and memory that is `put` of a table within
 -- its limits holds that table. Callers cite these and open neither `encode` nor `holds`.
-use Prim.Native.Nat.{ℕ, _+_, _/_, _%_, _≤_, _<_}
+use Prim.Native.Nat.{ℕ, _+_, _≤_, _<_}
 use mathlib.Core.Path.{_≡_, refl, sym, ap, _∙_}
-use mathlib.Core.List.{List, [], _∷_}
+use mathlib.Core.List.{List}
 use mathlib.Core.Bool.{true, _&&_}
 use native.Mathlib.Omega.{arith}
 use native.Mathlib.Nat.{div-add-mod'}
@@ -16,7 +16,7 @@ use Rattle.table.specs.declared.Place.the-variants.{Found, At}
 use Rattle.table.specs.Placing.{placedAt}
 use Rattle.table.specs.Tables.{Table, maxEntries, maxPathBytes, pathBytes, isEntry, present, isTable}
 use Rattle.table.specs.Acts.{insertedBy, adds, hasRoom}
-use Rattle.table.specs.Memory.{tableBytes, wordAt, entriesAt, offsetAt, tableOf, areWithin, holds, encode, put}
+use Rattle.table.specs.Memory.{tableHead, tableBytes, wordAt, entriesAt, offsetAt, tableOf, areWithin, holds, headBytes, encode, put}
 use Rattle.table.proofs.TableLaws.{valid-parts, parts-valid, length-more, path-more, every-more, marks-more, marks-present}
 use Rattle.table.proofs.Within.{held, rest-start, length-entries}
 use Rattle.table.proofs.Codec.{head-of, length-encode, entries-size, front}
@@ -28,7 +28,7 @@ use Rattle.paths.proofs.ComponentLaws.{and-left, and-right}
 
 pub count-of : (m : List ℕ) → length (tableOf m .entries) ≡ wordAt m 0
 unfolding tableOf
-count-of m = length-entries m (wordAt m 0) 4
+count-of m = length-entries m (wordAt m 0) tableHead
 
 pub long-of : (m : List ℕ) → holds m ≡ true → tableBytes ≤ length m
 long-of m h = held m h .long
@@ -36,24 +36,24 @@ long-of m h = held m h .long
 -- its table is within the limits
 pub valid-of : (m : List ℕ) → holds m ≡ true → isTable (tableOf m) ≡ true
 unfolding holds
-valid-of m e = and-right (leb tableBytes (length m) && areWithin m (wordAt m 0) 4) _ e
+valid-of m e = and-right (leb tableBytes (length m) && areWithin m (wordAt m 0) tableHead) _ e
 
 module _ (m : List ℕ) (bytes : Bytes m) (h : holds m ≡ true) where
   -- its table stands at its start
-  pub encode-front : encode (tableOf m) ≡ take (offsetAt m (wordAt m 0) 4) m
+  pub encode-front : encode (tableOf m) ≡ take (offsetAt m (wordAt m 0) tableHead) m
   unfolding tableOf
   encode-front =
-      head-of (tableOf m) (wordAt m 0) _ _ _ (length-entries m (wordAt m 0) 4) refl refl refl
+      head-of (tableOf m) (wordAt m 0) _ _ _ (length-entries m (wordAt m 0) tableHead) refl refl refl
       ∙ rw (digits-div (getD m 0 0) (bytes .each 1), digits-mod (getD m 0 0) (bytes .each 1)) (sym (front m bytes h (wordAt m 0) (omega arith)))
 
-  pub length-encoded : length (encode (tableOf m)) ≡ offsetAt m (wordAt m 0) 4
+  pub length-encoded : length (encode (tableOf m)) ≡ offsetAt m (wordAt m 0) tableHead
   unfolding encode tableOf
-  length-encoded = omega (arith, entries-size m (wordAt m 0) 4 (rest-start m h))
+  length-encoded = omega (arith, entries-size m (wordAt m 0) tableHead (rest-start m h))
 
   -- it is `put` of its table
   pub put-self : put (tableOf m) m ≡ m
   unfolding put
-  put-self = rw (length-encoded, encode-front) (take-append-drop (offsetAt m (wordAt m 0) 4) m)
+  put-self = rw (length-encoded, encode-front) (take-append-drop (offsetAt m (wordAt m 0) tableHead) m)
 
 -- ---- memory that a table was put into
 
@@ -66,17 +66,17 @@ module _ (t : Table) (m : List ℕ) where
   unfolding tableOf put encode
   tableOf-put =
       let n = length (t .entries) in
-      let es : entriesAt (put t m) (wordAt (put t m) 0) 4 ≡ t .entries =
-      ap (λ (k : ℕ). entriesAt (put t m) k 4) count-put
-      ∙ entries-read (put t m) (n / 256 ∷ n % 256 ∷ t .switches ∷ t .marks ∷ []) (t .entries) (drop (length (encode t)) m) 4 refl refl
+      let es : entriesAt (put t m) (wordAt (put t m) 0) tableHead ≡ t .entries =
+      ap (λ (k : ℕ). entriesAt (put t m) k tableHead) count-put
+      ∙ entries-read (put t m) (headBytes n (t .switches) (t .marks)) (t .entries) (drop (length (encode t)) m) tableHead refl refl
       in
       λ i. record { entries = es i; switches = t .switches; marks = t .marks }
 
-  within-put : areWithin (put t m) (length (t .entries)) 4 ≡ true
+  within-put : areWithin (put t m) (length (t .entries)) tableHead ≡ true
   unfolding put encode
   within-put =
       let n = length (t .entries) in
-      entries-within (put t m) (n / 256 ∷ n % 256 ∷ t .switches ∷ t .marks ∷ []) (t .entries) (drop (length (encode t)) m) 4 refl refl
+      entries-within (put t m) (headBytes n (t .switches) (t .marks)) (t .entries) (drop (length (encode t)) m) tableHead refl refl
 
   pub length-put : length (encode t) ≤ length m → length (put t m) ≡ length m
   unfolding put

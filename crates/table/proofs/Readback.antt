@@ -8,8 +8,8 @@ use native.Mathlib.Nat.{add-zero, div-add-mod'}
 use lib.ListN.{length, getD, take, drop, length-append}
 use lib.Seq.{getD-append-add, drop-append-add, take-append-seam}
 use borrow.Author.Tests.{le-leb}
-use Rattle.table.specs.Entries.{Entry, kindNumber}
-use Rattle.table.specs.Memory.{lenAt, nextAt, kindFrom, entryAt, entriesAt, areWithin, encodeEntry, encodeAll}
+use Rattle.table.specs.Entries.{Entry, kindNumber, maxKind}
+use Rattle.table.specs.Memory.{entryHead, lengthOffset, lenAt, nextAt, kindFrom, entryAt, entriesAt, areWithin, encodeEntry, encodeAll}
 use Rattle.table.proofs.Within.{kind-number, number-small, kind-bound}
 use Rattle.table.proofs.Codec.{length-encodeEntry}
 
@@ -25,13 +25,13 @@ module _ (m p : List ℕ) (e : Entry) (r : List ℕ) (at : ℕ) (q : m ≡ p ++ 
   read-len : lenAt m at ≡ length (e .path)
   unfolding encodeEntry
   read-len =
-      let two : at + 1 + 1 ≡ at + 2 = omega arith in
-      rw (two, read-byte 1, read-byte 2) (div-add-mod' (length (e .path)) 256)
+      let low : at + lengthOffset + 1 ≡ at + (lengthOffset + 1) = omega arith in
+      rw (low, read-byte lengthOffset, read-byte (lengthOffset + 1)) (div-add-mod' (length (e .path)) 256)
 
-  read-path : take (lenAt m at) (drop (at + 3) m) ≡ e .path
+  read-path : take (lenAt m at) (drop (at + entryHead) m) ≡ e .path
   unfolding encodeEntry
   read-path =
-      let behind : drop (at + 3) m ≡ e .path ++ r = rw (q, a) (drop-append-add p (encodeEntry e ++ r) 3) in
+      let behind : drop (at + entryHead) m ≡ e .path ++ r = rw (q, a) (drop-append-add p (encodeEntry e ++ r) entryHead) in
       rw (read-len, behind) (take-append-seam (e .path) r)
 
   read-entry : entryAt m at ≡ e
@@ -73,6 +73,6 @@ entries-within m p [] r at q a = refl
 entries-within m p (e ∷ es) r at q a =
     let q₁ = one-first m p e es r q in
     let R = encodeAll es ++ r in
-    let kind : getD m at 0 ≤ 3 = rw (read-kind m p e R at q₁ a) (number-small (e .kind)) in
+    let kind : getD m at 0 ≤ maxKind = rw (read-kind m p e R at q₁ a) (number-small (e .kind)) in
     rw (kind-bound (getD m at 0), le-leb _ _ kind, le-leb _ _ (read-inside m p e R at q₁ a))
     (entries-within m (p ++ encodeEntry e) es r (nextAt m at) (one-passed m p e es r q) (read-next m p e R at q₁ a))

@@ -1,5 +1,5 @@
--- Revoking and setting the switches in memory. The loop that drops entries has written those that it kept one after the other from offset 4
--- on, and those that are still to come stand where they were.
+-- Revoking and setting the switches in memory. The loop that drops entries has written those that it kept one after the other from the first
+-- entry's place on, and those that are still to come stand where they were.
 use Prim.Native.Nat.{ℕ, zero, suc, _+_, _-_, _≤_, _<_}
 use mathlib.Core.Path.{_≡_, refl, sym, ap, _∙_}
 use mathlib.Core.List.{List, [], _∷_, _++_, append-nil}
@@ -13,6 +13,11 @@ use Rattle.table.specs.Tables.{granted, clearBit, maxEntries}
 use Rattle.table.specs.Acts.{keptUnless, without, revokedBy, applyAct, setSwitches, revoke, revokeAll}
 use Rattle.table.specs.Changing.{droppedBy, dropping}
 use Rattle.table.specs.Memory.{
+  tableHead,
+  entryHead,
+  switchesAt,
+  marksAt,
+  lengthOffset,
   wordAt,
   lenAt,
   nextAt,
@@ -24,6 +29,7 @@ use Rattle.table.specs.Memory.{
   tableOf,
   holds,
   word,
+  headBytes,
   encodeEntry,
   encodeAll,
   encode,
@@ -78,36 +84,36 @@ module _ (dropped : Entry → Bool) (m : List ℕ) (n : ℕ) (h : 0 < n) (at : �
   without-miss e = rw (entriesAt-step m n h at, e)
 
 -- what lies behind the bytes that are written is as it was
-module _ (m s : List ℕ) (k : ℕ) (h : 4 + length s ≤ length m) (le : 4 + length s ≤ k) where
-  drop-over : drop k (overwrite m 4 s) ≡ drop k m
+module _ (m s : List ℕ) (k : ℕ) (h : tableHead + length s ≤ length m) (le : tableHead + length s ≤ k) where
+  drop-over : drop k (overwrite m tableHead s) ≡ drop k m
   drop-over =
-      let e : k ≡ 4 + length s + (k - (4 + length s)) = omega arith in
-      ap (λ (j : ℕ). drop j (overwrite m 4 s)) e ∙ drop-behind m 4 s h (k - (4 + length s)) ∙ ap (λ (j : ℕ). drop j m) (sym e)
+      let e : k ≡ tableHead + length s + (k - (tableHead + length s)) = omega arith in
+      ap (λ (j : ℕ). drop j (overwrite m tableHead s)) e ∙ drop-behind m tableHead s h (k - (tableHead + length s)) ∙ ap (λ (j : ℕ). drop j m) (sym e)
 
-  getD-over : getD (overwrite m 4 s) k 0 ≡ getD m k 0
+  getD-over : getD (overwrite m tableHead s) k 0 ≡ getD m k 0
   getD-over =
       let e = add-zero k in
-      ap (λ (j : ℕ). getD (overwrite m 4 s) j 0) (sym e)
-      ∙ sym (getD-drop k (overwrite m 4 s) 0 0)
+      ap (λ (j : ℕ). getD (overwrite m tableHead s) j 0) (sym e)
+      ∙ sym (getD-drop k (overwrite m tableHead s) 0 0)
       ∙ ap (λ (l : List ℕ). getD l 0 0) drop-over
       ∙ getD-drop k m 0 0
       ∙ ap (λ (j : ℕ). getD m j 0) e
 
 -- ---- the loop
 
--- m₀ is the memory as it was, m as it is: ks are kept, from 4 up to `to`, and `left` entries are to come, from `from` on
+-- m₀ is the memory as it was, m as it is: ks are kept, from `tableHead` up to `to`, and `left` entries are to come, from `from` on
 pub record Kept (dropped : Entry → Bool) (m₀ m : List ℕ) (left kept from to : ℕ) : Type 0 where
   pub ks : List Entry
   pub rest : Rest m₀ left from
   pub order : to ≤ from
-  pub size : to ≡ 4 + length (encodeAll ks)
+  pub size : to ≡ tableHead + length (encodeAll ks)
   pub count : kept ≡ length ks
   pub few : kept + left ≤ maxEntries
-  pub bytes : m ≡ overwrite m₀ 4 (encodeAll ks)
+  pub bytes : m ≡ overwrite m₀ tableHead (encodeAll ks)
   pub same : length m ≡ length m₀
   pub all : without dropped (tableOf m₀ .entries) ≡ ks ++ without dropped (entriesAt m₀ left from)
 
-pub kept-start : (dropped : Entry → Bool) (m : List ℕ) → holds m ≡ true → Kept dropped m m (wordAt m 0) 0 4 4
+pub kept-start : (dropped : Entry → Bool) (m : List ℕ) → holds m ≡ true → Kept dropped m m (wordAt m 0) 0 tableHead tableHead
 unfolding encodeAll overwrite tableOf
 kept-start dropped m e = record {
   ks = [];
@@ -116,7 +122,7 @@ kept-start dropped m e = record {
   size = refl;
   count = refl;
   few = omega (arith, held m e .few);
-  bytes = paste-zero m 4 [];
+  bytes = paste-zero m tableHead [];
   same = refl;
   all = refl;
 }
@@ -125,7 +131,7 @@ module _ {dropped : Entry → Bool} {m₀ m : List ℕ} {left kept from to : ℕ
   here : Here m₀ from
   here = rest-here h (K .rest)
 
-  written : 4 + length (encodeAll (K .ks)) ≤ length m₀
+  written : tableHead + length (encodeAll (K .ks)) ≤ length m₀
   written = omega (arith, K .size, K .order, here .inside)
 
   same-at : (k : ℕ) → from ≤ k → getD m k 0 ≡ getD m₀ k 0
@@ -135,20 +141,20 @@ module _ {dropped : Entry → Bool} {m₀ m : List ℕ} {left kept from to : ℕ
   same-from k le = ap (drop k) (K .bytes) ∙ drop-over m₀ (encodeAll (K .ks)) k written (omega (arith, K .size, K .order))
 
   same-len : lenAt m from ≡ lenAt m₀ from
-  same-len = rw (same-at (from + 1) (omega arith), same-at (from + 1 + 1) (omega arith))
+  same-len = rw (same-at (from + lengthOffset) (omega arith), same-at (from + lengthOffset + 1) (omega arith))
 
   same-entry : entryAt m₀ from ≡ entryAt m from
-  same-entry = sym (rw (same-at from (omega arith), same-len, same-from (from + 3) (omega arith)))
+  same-entry = sym (rw (same-at from (omega arith), same-len, same-from (from + entryHead) (omega arith)))
 
   -- the entry that comes next lies within the memory
   pub next-inside : nextAt m from ≤ length m
   next-inside = omega (arith, same-len, here .inside, K .same)
 
-  next-at : (size : ℕ) → size ≡ lenAt m from + 3 → from + size ≡ nextAt m₀ from
+  next-at : (size : ℕ) → size ≡ lenAt m from + entryHead → from + size ≡ nextAt m₀ from
   next-at size e = omega (arith, same-len)
 
   -- it is dropped
-  pub kept-skip : (size : ℕ) (r : Bool) → size ≡ lenAt m from + 3 → r ≡ dropped (entryAt m from) → r ≡ true
+  pub kept-skip : (size : ℕ) (r : Bool) → size ≡ lenAt m from + entryHead → r ≡ dropped (entryAt m from) → r ≡ true
       → Kept dropped m₀ m (left - 1) kept (from + size) to
   kept-skip size r e d z = record {
     ks = K .ks;
@@ -164,13 +170,13 @@ module _ {dropped : Entry → Bool} {m₀ m : List ℕ} {left kept from to : ℕ
         ∙ ap (λ (l : List Entry). K .ks ++ l) (rw (next-at size e) (without-hit dropped m₀ left h from (ap dropped same-entry ∙ sym d ∙ z)));
   }
 
-  module _ (size : ℕ) (e : size ≡ lenAt m from + 3) where
+  module _ (size : ℕ) (e : size ≡ lenAt m from + entryHead) where
     next-size : length (encodeEntry (entryAt m₀ from)) ≡ size
     next-size = omega (arith, length-encodeEntry (entryAt m₀ from), length-path m₀ from (here .inside), same-len)
 
     next-bytes : Bytes m₀ → take size (drop from m) ≡ encodeEntry (entryAt m₀ from)
     next-bytes b =
-        ap (take size) (same-from from (omega arith) ∙ entry-law m₀ from (b .each (from + 1 + 1)) here)
+        ap (take size) (same-from from (omega arith) ∙ entry-law m₀ from (b .each (from + lengthOffset + 1)) here)
         ∙ take-at (encodeEntry (entryAt m₀ from)) _ size next-size
 
     -- it is kept
@@ -190,7 +196,7 @@ module _ {dropped : Entry → Bool} {m₀ m : List ℕ} {left kept from to : ℕ
           size = rw (more, length-append) (omega (arith, K .size, next-size));
           count = rw length-append (omega (arith, K .count));
           few = omega (arith, K .few);
-          bytes = q ∙ rw (next-bytes b, K .bytes, K .size, more) (over-above m₀ 4 (encodeAll (K .ks)) X written);
+          bytes = q ∙ rw (next-bytes b, K .bytes, K .size, more) (over-above m₀ tableHead (encodeAll (K .ks)) X written);
           same = s ∙ K .same;
           all =
               K .all
@@ -204,19 +210,19 @@ pub kept-end : (dropped : Entry → Bool) (m₀ m l : List ℕ) (left kept from 
 unfolding put tableOf without offsetAt entriesAt encodeAll
 kept-end dropped m₀ m l left kept from to b hold none K q =
     let es : without dropped (tableOf m₀ .entries) ≡ K .ks = K .all ∙ rw (entriesAt-none m₀ left from none) (append-nil (K .ks)) in
-    let e : encode (dropping dropped (tableOf m₀)) ≡ word kept ++ getD m₀ 2 0 ∷ getD m₀ 3 0 ∷ encodeAll (K .ks) =
+    let e : encode (dropping dropped (tableOf m₀)) ≡ headBytes kept (getD m₀ switchesAt 0) (getD m₀ marksAt 0) ++ encodeAll (K .ks) =
     head-of (dropping dropped (tableOf m₀)) kept (encodeAll (K .ks)) _ _ (ap length es ∙ sym (K .count)) (ap encodeAll es) refl refl
     in
     q
     ∙ ap (λ (l : List ℕ). overwrite l 0 (word kept)) (K .bytes)
-    ∙ rw e (headed m₀ _ _ _ _ [] (encodeAll (K .ks)) 4 _ _ (front m₀ b hold 0 (omega arith)) (omega (arith, held m₀ hold .long)))
+    ∙ rw e (headed m₀ _ _ _ (encodeAll (K .ks)) tableHead _ _ (front m₀ b hold 0 (omega arith)) (omega (arith, held m₀ hold .long)))
 
 -- ---- the switches
 
 -- the switches alone
-pub switch-law : (m l : List ℕ) (v : ℕ) → Bytes m → holds m ≡ true → l ≡ set m 2 v → l ≡ doAct m (setSwitches v)
+pub switch-law : (m l : List ℕ) (v : ℕ) → Bytes m → holds m ≡ true → l ≡ set m switchesAt v → l ≡ doAct m (setSwitches v)
 unfolding doAct put encode applyAct tableOf
-switch-law m l v b h q = q ∙ ap (λ (l : List ℕ). set l 2 v) (sym (put-self m b h))
+switch-law m l v b h q = q ∙ ap (λ (l : List ℕ). set l switchesAt v) (sym (put-self m b h))
 
 -- ---- every grant
 
@@ -239,7 +245,7 @@ revoke-law m l q e = e
 
 -- every grant is dropped, and then the switch is cleared
 pub revoke-all-law : (m l l′ q : List ℕ) (v : ℕ) → l ≡ put (dropping (droppedBy true q) (tableOf m)) m
-    → v ≡ clearBit (getD l 2 0) granted → l′ ≡ set l 2 v → l′ ≡ doAct m revokeAll
+    → v ≡ clearBit (getD l switchesAt 0) granted → l′ ≡ set l switchesAt v → l′ ≡ doAct m revokeAll
 unfolding doAct put encode applyAct
 revoke-all-law m l l′ q v e c s =
     let t = tableOf m in

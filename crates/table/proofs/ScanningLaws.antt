@@ -12,9 +12,23 @@ use Rattle.paths.specs.Resolving.{maxPath, isResolved}
 use Rattle.paths.proofs.ComponentLaws.{and-left, and-right, and-both}
 use Rattle.table.specs.declared.Kind.{Kind}
 use Rattle.table.specs.declared.Kind.the-variants.{D, P, I}
-use Rattle.table.specs.Entries.{Entry, kindNumber}
+use Rattle.table.specs.Entries.{Entry, kindNumber, maxKind}
 use Rattle.table.specs.Tables.{marked, maxEntries, maxPathBytes, maxSwitches, pathBytes, isEntry, every, any, present, marksOf}
-use Rattle.table.specs.Memory.{tableBytes, wordAt, lenAt, nextAt, entryAt, entriesAt, tableOf, areWithin, holds}
+use Rattle.table.specs.Memory.{
+  tableHead,
+  entryHead,
+  switchesAt,
+  marksAt,
+  tableBytes,
+  wordAt,
+  lenAt,
+  nextAt,
+  entryAt,
+  entriesAt,
+  tableOf,
+  areWithin,
+  holds,
+}
 use Rattle.table.specs.Scanning.{entryFits, scanned}
 use Rattle.table.proofs.BitLaws.{marked-small}
 use Rattle.table.proofs.TableLaws.{marksBy, mark-set, parts-valid}
@@ -56,7 +70,7 @@ marks-after es = marks-from es false false false ∙ rw (or-false (present D es)
 -- ---- one entry
 
 pub record Fits (m : List ℕ) (room at : ℕ) : Type 0 where
-  pub kind : getD m at 0 ≤ 3
+  pub kind : getD m at 0 ≤ maxKind
   pub short : lenAt m at ≤ 1024
   pub roomy : lenAt m at ≤ room
   pub resolved : isResolved (entryAt m at .path) ≡ true
@@ -64,7 +78,7 @@ pub record Fits (m : List ℕ) (room at : ℕ) : Type 0 where
 pub fits-parts : (m : List ℕ) (room at : ℕ) → entryFits m room at ≡ true → Fits m room at
 unfolding entryFits
 fits-parts m room at e =
-    let a = leb (getD m at 0) 3 in
+    let a = leb (getD m at 0) maxKind in
     let b = leb (lenAt m at) 1024 in
     let c = leb (lenAt m at) room in
     let e₁ = and-left (a && b && c) _ e in
@@ -83,7 +97,7 @@ fits-entry : (m : List ℕ) (room at : ℕ) → nextAt m at ≤ length m → Fit
 unfolding isEntry isPath
 fits-entry m room at inside f = rw (length-path m at inside, le-leb _ _ (f .short)) (f .resolved)
 
-entry-fits : (m : List ℕ) (room at : ℕ) → nextAt m at ≤ length m → getD m at 0 ≤ 3 → lenAt m at ≤ room → isEntry (entryAt m at) ≡ true → Fits m room at
+entry-fits : (m : List ℕ) (room at : ℕ) → nextAt m at ≤ length m → getD m at 0 ≤ maxKind → lenAt m at ≤ room → isEntry (entryAt m at) ≡ true → Fits m room at
 unfolding isEntry isPath
 entry-fits m room at inside kind roomy e =
     let short : length (entryAt m at .path) ≤ 1024 = leb-true _ _ (and-left (leb (length (entryAt m at .path)) 1024) _ e) in
@@ -101,9 +115,9 @@ pub record Scan (m : List ℕ) (n room seen at : ℕ) : Type 0 where
   pub within : areWithin m n at ≡ true
   pub each : every isEntry (entriesAt m n at) ≡ true
   pub roomy : pathBytes (entriesAt m n at) ≤ room
-  pub marks : marksAfter seen (entriesAt m n at) ≡ getD m 3 0
+  pub marks : marksAfter seen (entriesAt m n at) ≡ getD m marksAt 0
 
-pub scan-parts : (m : List ℕ) (n room seen at : ℕ) → at + 3 * n + room ≤ length m → scanned m n room seen at ≡ true → Scan m n room seen at
+pub scan-parts : (m : List ℕ) (n room seen at : ℕ) → at + entryHead * n + room ≤ length m → scanned m n room seen at ≡ true → Scan m n room seen at
 unfolding scanned areWithin entriesAt every pathBytes marksAfter
 scan-parts m zero room seen at long e = record { within = refl; each = refl; roomy = omega arith; marks = eqb-true _ _ e }
 scan-parts m (suc n) room seen at long e =
@@ -150,19 +164,19 @@ both true b f g = sym (f refl)
 both false true f g = absurd (false≢true (g refl))
 both false false f g = refl
 
-module _ (m : List ℕ) (long : tableBytes ≤ length m) (few : wordAt m 0 ≤ maxEntries) (low : getD m 2 0 ≤ maxSwitches) where
-  holds-scan : holds m ≡ true → Scan m (wordAt m 0) maxPathBytes 0 4
+module _ (m : List ℕ) (long : tableBytes ≤ length m) (few : wordAt m 0 ≤ maxEntries) (low : getD m switchesAt 0 ≤ maxSwitches) where
+  holds-scan : holds m ≡ true → Scan m (wordAt m 0) maxPathBytes 0 tableHead
   holds-scan e =
       let h = held m e in
       record { within = h .within; each = h .each; roomy = h .bytes; marks = marks-after _ ∙ sym (h .marks) }
 
-  scan-holds : Scan m (wordAt m 0) maxPathBytes 0 4 → holds m ≡ true
+  scan-holds : Scan m (wordAt m 0) maxPathBytes 0 tableHead → holds m ≡ true
   unfolding holds tableOf
   scan-holds s =
       and-both
       (and-both (le-leb _ _ long) (s .within))
       (parts-valid (tableOf m) (record {
-        few = omega (arith, length-entries m (wordAt m 0) 4);
+        few = omega (arith, length-entries m (wordAt m 0) tableHead);
         bytes = s .roomy;
         each = s .each;
         switches = low;
@@ -170,7 +184,7 @@ module _ (m : List ℕ) (long : tableBytes ≤ length m) (few : wordAt m 0 ≤ m
       }))
 
   -- where size, count and switches are in order, the scan decides
-  pub holds-scanned : holds m ≡ scanned m (wordAt m 0) maxPathBytes 0 4
+  pub holds-scanned : holds m ≡ scanned m (wordAt m 0) maxPathBytes 0 tableHead
   holds-scanned = both _ _ (λ e. parts-scan m _ _ _ _ (holds-scan e)) (λ e. scan-holds (scan-parts m _ _ _ _ (omega arith) e))
 
 -- and where one is not, the memory holds no table
@@ -180,13 +194,13 @@ holds-short m h = false-by (λ e. omega (arith, held m e .long))
 pub holds-many : (m : List ℕ) → maxEntries < wordAt m 0 → holds m ≡ false
 holds-many m h = false-by (λ e. omega (arith, held m e .few))
 
-pub holds-high : (m : List ℕ) → maxSwitches < getD m 2 0 → holds m ≡ false
+pub holds-high : (m : List ℕ) → maxSwitches < getD m switchesAt 0 → holds m ≡ false
 holds-high m h = false-by (λ e. omega (arith, held m e .switches))
 
 -- ---- one entry that is tested
 
 module _ (m : List ℕ) (room at : ℕ) where
-  pub unfit-kind : 3 < getD m at 0 → entryFits m room at ≡ false
+  pub unfit-kind : maxKind < getD m at 0 → entryFits m room at ≡ false
   unfit-kind h = false-by (λ e. omega (arith, fits-parts m room at e .kind))
 
   pub unfit-long : maxPath < lenAt m at → entryFits m room at ≡ false
@@ -196,7 +210,7 @@ module _ (m : List ℕ) (room at : ℕ) where
   unfit-room h = false-by (λ e. omega (arith, fits-parts m room at e .roomy))
 
   -- all but the path is in order
-  pub fit-path : getD m at 0 ≤ 3 → lenAt m at ≤ maxPath → lenAt m at ≤ room → isResolved (entryAt m at .path) ≡ entryFits m room at
+  pub fit-path : getD m at 0 ≤ maxKind → lenAt m at ≤ maxPath → lenAt m at ≤ room → isResolved (entryAt m at .path) ≡ entryFits m room at
   unfolding entryFits
   fit-path kind short roomy = rw (le-leb _ _ kind, le-leb _ _ short, le-leb _ _ roomy)
 
@@ -207,11 +221,11 @@ mark-of {k} {j} {r} n e f = e ∙ ap (λ (x : Kind). marked x n) f
 
 -- the test of `all` entries has `left` to go
 pub record Scans (m : List ℕ) (all left room seen at : ℕ) : Type 0 where
-  pub inside : at + 3 * left + room ≤ length m
+  pub inside : at + entryHead * left + room ≤ length m
   pub small : seen ≤ 7
-  pub goes : scanned m all maxPathBytes 0 4 ≡ scanned m left room seen at
+  pub goes : scanned m all maxPathBytes 0 tableHead ≡ scanned m left room seen at
 
-pub scans-start : (m : List ℕ) (n : ℕ) → tableBytes ≤ length m → n ≤ maxEntries → Scans m n n maxPathBytes 0 4
+pub scans-start : (m : List ℕ) (n : ℕ) → tableBytes ≤ length m → n ≤ maxEntries → Scans m n n maxPathBytes 0 tableHead
 scans-start m n long few = record { inside = omega arith; small = omega arith; goes = refl }
 
 module _ {m : List ℕ} {all left room seen at : ℕ} (h : 0 < left) (S : Scans m all left room seen at) where
@@ -220,11 +234,11 @@ module _ {m : List ℕ} {all left room seen at : ℕ} (h : 0 < left) (S : Scans 
   unfolding scanned
   step = ap (λ (k : ℕ). scanned m k room seen at) (pred-suc left h)
 
-  pub scans-bad : entryFits m room at ≡ false → false ≡ scanned m all maxPathBytes 0 4
+  pub scans-bad : entryFits m room at ≡ false → false ≡ scanned m all maxPathBytes 0 tableHead
   scans-bad e = sym (S .goes ∙ step ∙ rw e)
 
   pub scans-next : (n seen′ : ℕ) → n ≡ lenAt m at → seen′ ≡ marked (entryAt m at .kind) seen → entryFits m room at ≡ true
-      → Scans m all (left - 1) (room - n) seen′ (at + 3 + n)
+      → Scans m all (left - 1) (room - n) seen′ (at + entryHead + n)
   scans-next n seen′ size mark e =
       let fits = fits-parts m room at e .roomy in
       record {
@@ -233,17 +247,17 @@ module _ {m : List ℕ} {all left room seen at : ℕ} (h : 0 < left) (S : Scans 
         goes = rw (size, mark) (S .goes ∙ step ∙ rw e);
       }
 
-scanned-none : (m : List ℕ) (n room seen at : ℕ) → n ≤ 0 → scanned m n room seen at ≡ eqb seen (getD m 3 0)
+scanned-none : (m : List ℕ) (n room seen at : ℕ) → n ≤ 0 → scanned m n room seen at ≡ eqb seen (getD m marksAt 0)
 unfolding scanned
 scanned-none m zero room seen at h = refl
 scanned-none m (suc n) room seen at h = absurd (not-suc-le-zero h)
 
 pub scans-end : {m : List ℕ} {all left room seen at : ℕ} → left ≤ 0 → Scans m all left room seen at
-    → eqb seen (getD m 3 0) ≡ scanned m all maxPathBytes 0 4
+    → eqb seen (getD m marksAt 0) ≡ scanned m all maxPathBytes 0 tableHead
 scans-end {m} {all} {left} {room} {seen} {at} h S = sym (S .goes ∙ scanned-none m left room seen at h)
 
 -- the test's answer, with the count that it read
-pub holds-by : (m : List ℕ) (n : ℕ) (r : Bool) → tableBytes ≤ length m → n ≡ wordAt m 0 → n ≤ maxEntries → getD m 2 0 ≤ maxSwitches
-    → r ≡ scanned m n maxPathBytes 0 4 → r ≡ holds m
+pub holds-by : (m : List ℕ) (n : ℕ) (r : Bool) → tableBytes ≤ length m → n ≡ wordAt m 0 → n ≤ maxEntries → getD m switchesAt 0 ≤ maxSwitches
+    → r ≡ scanned m n maxPathBytes 0 tableHead → r ≡ holds m
 holds-by m n r long count few low e =
-    e ∙ ap (λ (k : ℕ). scanned m k maxPathBytes 0 4) count ∙ sym (holds-scanned m long (omega arith) low)
+    e ∙ ap (λ (k : ℕ). scanned m k maxPathBytes 0 tableHead) count ∙ sym (holds-scanned m long (omega arith) low)

@@ -10,7 +10,7 @@ use lib.ListN.{length, take, drop}
 use Rattle.paths.specs.Components.{Bytes}
 use Rattle.paths.specs.Copying.{overwrite, Appends}
 use Rattle.table.specs.Tables.{Table, isTable}
-use Rattle.table.specs.Memory.{tableBytes, tableOf, holds, headBytes, encodeAll, encode, put}
+use Rattle.table.specs.Memory.{tableHead, tableBytes, tableOf, holds, headBytes, encodeAll, encode, put}
 use Rattle.table.specs.Listing.{usedBytes}
 use Rattle.table.proofs.Puts.{valid-of, encode-fits}
 use Rattle.table.proofs.Codec.{length-encodeAll, length-encode}
@@ -29,7 +29,7 @@ module _ (p : List ℕ) (b : Bytes p) (h : holds p ≡ true) {end : ℕ} (e : en
   copy-law c q = q ∙ rw (copied, zero-add)
 
 -- the entries of t are written from the place of the first on, and then its count, switches and marks
-pub put-by : (t : Table) (m : List ℕ) {m′ m″ : List ℕ} {at : ℕ} → isTable t ≡ true → tableBytes ≤ length m → Appends (encodeAll (t .entries)) m 4 m′ at
+pub put-by : (t : Table) (m : List ℕ) {m′ m″ : List ℕ} {at : ℕ} → isTable t ≡ true → tableBytes ≤ length m → Appends (encodeAll (t .entries)) m tableHead m′ at
     → m″ ≡ overwrite m′ 0 (headBytes (length (t .entries)) (t .switches) (t .marks)) → m″ ≡ put t m
 unfolding overwrite put encode
 put-by t m v long A e =

@@ -12,9 +12,13 @@ use borrow.Author.Tests.{leb-true, le-leb, lt-leb}
 use Rattle.table.specs.declared.Kind.{Kind}
 use Rattle.table.specs.declared.Kind.the-variants.{G, D, P, I}
 use Rattle.table.specs.declared.KindRead.the-variants as kind-read
-use Rattle.table.specs.Entries.{kindNumber, kindOf, isKind}
+use Rattle.table.specs.Entries.{kindNumber, kindOf, isKind, maxKind}
 use Rattle.table.specs.Tables.{maxEntries, maxPathBytes, maxSwitches, pathBytes, isEntry, every, marksOf}
 use Rattle.table.specs.Memory.{
+  tableHead,
+  entryHead,
+  switchesAt,
+  marksAt,
   tableBytes,
   wordAt,
   lenAt,
@@ -43,7 +47,7 @@ kind-number D = refl
 kind-number P = refl
 kind-number I = refl
 
-pub number-kind : (n : ℕ) → n ≤ 3 → kindNumber (kindFrom n) ≡ n
+pub number-kind : (n : ℕ) → n ≤ maxKind → kindNumber (kindFrom n) ≡ n
 unfolding kindIn kindOf
 number-kind zero h = refl
 number-kind (suc zero) h = refl
@@ -51,22 +55,22 @@ number-kind (suc (suc zero)) h = refl
 number-kind (suc (suc (suc zero))) h = refl
 number-kind (suc (suc (suc (suc n)))) h = omega arith
 
-pub number-small : (k : Kind) → kindNumber k ≤ 3
+pub number-small : (k : Kind) → kindNumber k ≤ maxKind
 number-small G = omega arith
 number-small D = omega arith
 number-small P = omega arith
 number-small I = omega arith
 
 -- the numbers that name a kind
-pub kind-bound : (n : ℕ) → isKind (kindOf n) ≡ leb n 3
+pub kind-bound : (n : ℕ) → isKind (kindOf n) ≡ leb n maxKind
 unfolding isKind kindOf
 kind-bound zero = refl
 kind-bound (suc zero) = refl
 kind-bound (suc (suc zero)) = refl
 kind-bound (suc (suc (suc zero))) = refl
-kind-bound (suc (suc (suc (suc n)))) = let h : 3 < suc (suc (suc (suc n))) = omega arith in sym (lt-leb _ _ h)
+kind-bound (suc (suc (suc (suc n)))) = let h : maxKind < suc (suc (suc (suc n))) = omega arith in sym (lt-leb _ _ h)
 
-pub kind-unknown : (n : ℕ) → 3 < n → kindOf n ≡ kind-read.Unknown
+pub kind-unknown : (n : ℕ) → maxKind < n → kindOf n ≡ kind-read.Unknown
 unfolding kindOf
 kind-unknown zero h = absurd (omega arith)
 kind-unknown (suc zero) h = absurd (omega arith)
@@ -74,7 +78,7 @@ kind-unknown (suc (suc zero)) h = absurd (omega arith)
 kind-unknown (suc (suc (suc zero))) h = absurd (omega arith)
 kind-unknown (suc (suc (suc (suc n)))) h = refl
 
-pub kind-above : (n : ℕ) → 3 ≤ n → kindFrom n ≡ I
+pub kind-above : (n : ℕ) → maxKind ≤ n → kindFrom n ≡ I
 unfolding kindIn kindOf
 kind-above zero h = absurd (omega arith)
 kind-above (suc zero) h = absurd (omega arith)
@@ -140,22 +144,22 @@ module _ (m : List ℕ) (n : ℕ) (h : 0 < n) (at : ℕ) (e : areWithin m n at �
 pub record Held (m : List ℕ) : Type 0 where
   pub long : tableBytes ≤ length m
   pub few : wordAt m 0 ≤ maxEntries
-  pub bytes : pathBytes (entriesAt m (wordAt m 0) 4) ≤ maxPathBytes
-  pub switches : getD m 2 0 ≤ maxSwitches
-  pub marks : getD m 3 0 ≡ marksOf (entriesAt m (wordAt m 0) 4)
-  pub within : areWithin m (wordAt m 0) 4 ≡ true
-  pub each : every isEntry (entriesAt m (wordAt m 0) 4) ≡ true
+  pub bytes : pathBytes (entriesAt m (wordAt m 0) tableHead) ≤ maxPathBytes
+  pub switches : getD m switchesAt 0 ≤ maxSwitches
+  pub marks : getD m marksAt 0 ≡ marksOf (entriesAt m (wordAt m 0) tableHead)
+  pub within : areWithin m (wordAt m 0) tableHead ≡ true
+  pub each : every isEntry (entriesAt m (wordAt m 0) tableHead) ≡ true
 
 pub held : (m : List ℕ) → holds m ≡ true → Held m
 unfolding holds tableOf
 held m e =
     let a = leb tableBytes (length m) in
-    let b = areWithin m (wordAt m 0) 4 in
+    let b = areWithin m (wordAt m 0) tableHead in
     let e₁ = and-left (a && b) _ e in
     let v = valid-parts (tableOf m) (and-right (a && b) _ e) in
     record {
       long = leb-true _ _ (and-left a _ e₁);
-      few = omega (arith, v .few, length-entries m (wordAt m 0) 4);
+      few = omega (arith, v .few, length-entries m (wordAt m 0) tableHead);
       bytes = v .bytes;
       switches = v .switches;
       marks = v .marks;
@@ -163,19 +167,19 @@ held m e =
       each = v .each;
     }
 
-pub marks-of : (m : List ℕ) → holds m ≡ true → getD m 3 0 ≤ 7
-marks-of m e = rw (held m e .marks) (marks-small (entriesAt m (wordAt m 0) 4))
+pub marks-of : (m : List ℕ) → holds m ≡ true → getD m marksAt 0 ≤ 7
+marks-of m e = rw (held m e .marks) (marks-small (entriesAt m (wordAt m 0) tableHead))
 
 -- ---- a walk over the entries
 
-pub rest-start : (m : List ℕ) → holds m ≡ true → Rest m (wordAt m 0) 4
+pub rest-start : (m : List ℕ) → holds m ≡ true → Rest m (wordAt m 0) tableHead
 rest-start m e =
     let h = held m e in
     record { within = h .within; each = h .each }
 
 -- what the entry at `at` has
 pub record Here (m : List ℕ) (at : ℕ) : Type 0 where
-  pub kind : getD m at 0 ≤ 3
+  pub kind : getD m at 0 ≤ maxKind
   pub inside : nextAt m at ≤ length m
   pub short : lenAt m at ≤ maxPath
   pub resolved : isResolved (entryAt m at .path) ≡ true
@@ -183,13 +187,13 @@ pub record Here (m : List ℕ) (at : ℕ) : Type 0 where
 
 -- the path of an entry that lies within the memory has the length that the entry says
 pub length-path : (m : List ℕ) (at : ℕ) → nextAt m at ≤ length m → length (entryAt m at .path) ≡ lenAt m at
-length-path m at h = length-take-le (lenAt m at) (drop (at + 3) m) (simp length-drop (omega arith))
+length-path m at h = length-take-le (lenAt m at) (drop (at + entryHead) m) (simp length-drop (omega arith))
 
 -- the bytes behind an entry's head are its path
-pub path-lent : (m : List ℕ) (at n : ℕ) → n ≡ lenAt m at → take (at + 3 + n - (at + 3)) (drop (at + 3) m) ≡ entryAt m at .path
+pub path-lent : (m : List ℕ) (at n : ℕ) → n ≡ lenAt m at → take (at + entryHead + n - (at + entryHead)) (drop (at + entryHead) m) ≡ entryAt m at .path
 path-lent m at n e =
-    let k : at + 3 + n - (at + 3) ≡ lenAt m at = omega arith in
-    ap (λ (j : ℕ). take j (drop (at + 3) m)) k
+    let k : at + entryHead + n - (at + entryHead) ≡ lenAt m at = omega arith in
+    ap (λ (j : ℕ). take j (drop (at + entryHead) m)) k
 
 -- where a definition recurses
 module _ {m : List ℕ} {n at : ℕ} (r : Rest m (suc n) at) where

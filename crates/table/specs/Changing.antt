@@ -12,13 +12,13 @@ use Rattle.table.specs.Entries.{Entry, isGranted}
 use Rattle.table.specs.Placing.{search}
 use Rattle.table.specs.Tables.{Table}
 use Rattle.table.specs.Acts.{Act, insert, overflows, actOverflows, without}
-use Rattle.table.specs.Memory.{tableOf, offsetAt, doAct, doActs}
+use Rattle.table.specs.Memory.{tableHead, offsetAt, tableOf, doAct, doActs}
 use Rattle.table.specs.Carrying.{actsOf}
 
 -- the search for e's place ends at `base`, and the entry there begins at `at`
 pub record SearchEnds (m : List ℕ) (e : Entry) (base at : ℕ) : Type 0 where
   pub ends : base ≡ search (tableOf m .entries) e
-  pub begins : at ≡ offsetAt m base 4
+  pub begins : at ≡ offsetAt m base tableHead
 
 -- memory m is m′ after an insert of e: false, and nothing changes, where the insert overflows
 pub record InsertsEntry (m m′ : List ℕ) (e : Entry) (done : Bool) : Type 0 where

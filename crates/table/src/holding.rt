@@ -1,6 +1,6 @@
 // Whether lent memory holds a table.
 use crate::ENTRY_HEAD;
-use crate::HEAD;
+use crate::LENGTH_OFFSET;
 use crate::MARKS_AT;
 use crate::MAX_ENTRIES;
 use crate::MAX_KIND;
@@ -8,6 +8,7 @@ use crate::MAX_PATH_BYTES;
 use crate::MAX_SWITCHES;
 use crate::SWITCHES_AT;
 use crate::TABLE_BYTES;
+use crate::TABLE_HEAD;
 use crate::bits::marked;
 use crate::reading::entry_path;
 use crate::reading::kind_from;
@@ -17,18 +18,18 @@ ghost use mathlib.Core.Path.{_≡_};
 ghost use Prim.Native.Nat.{_+_, _≤_};
 ghost use lib.ListN.{length};
 ghost use Rattle.table.specs.Tables.{maxEntries, maxPathBytes};
-ghost use Rattle.table.specs.Memory.{tableBytes, holds};
+ghost use Rattle.table.specs.Memory.{tableHead, entryHead, tableBytes, holds};
 ghost use Rattle.table.specs.Scanning.{entryFits, scanned};
 
 // Whether the entry at an offset has a known kind and a resolved path within its limit, with `room` path bytes left.
 fn entry_fits(mem: &[u8], room: usize, at: usize) -> bool
-    requires { ⌜ at + 3 + room ≤ length (now mem) ⌝ }
+    requires { ⌜ at + entryHead + room ≤ length (now mem) ⌝ }
     ensures { λ r. ⌜ r ≡ entryFits (now (mem .entry)) room at ⌝ }
 {
     if mem[at] > MAX_KIND {
         return false;
     }
-    let len = word_at(mem, at + 1);
+    let len = word_at(mem, at + LENGTH_OFFSET);
     if len > MAX_PATH {
         return false;
     }
@@ -38,21 +39,21 @@ fn entry_fits(mem: &[u8], room: usize, at: usize) -> bool
     paths::resolving::is_resolved(entry_path(mem, at))
 }
 
-// Whether `count` entries from offset 4 on fit, and are of the kinds that the marks say.
+// Whether `count` entries from the first on fit, and are of the kinds that the marks say.
 fn entries_fit(mem: &[u8], count: usize) -> bool
     requires { ⌜ (tableBytes ≤ length (now mem)) × (count ≤ maxEntries) ⌝ }
-    ensures { λ r. ⌜ r ≡ scanned (now (mem .entry)) count maxPathBytes 0 4 ⌝ }
+    ensures { λ r. ⌜ r ≡ scanned (now (mem .entry)) count maxPathBytes 0 tableHead ⌝ }
 {
     let mut left = count;
     let mut room: usize = MAX_PATH_BYTES;
-    let mut at: usize = HEAD;
+    let mut at: usize = TABLE_HEAD;
     let mut seen: u8 = 0;
     while left > 0 {
         if !entry_fits(mem, room, at) {
             return false;
         }
         seen = marked(kind_from(mem[at]), seen);
-        let len = word_at(mem, at + 1);
+        let len = word_at(mem, at + LENGTH_OFFSET);
         room -= len;
         at = at + ENTRY_HEAD + len;
         left -= 1;

@@ -14,18 +14,20 @@ pub mod reading;
 pub mod revoking;
 pub mod writing;
 
-// The bytes of the largest table.
-pub const TABLE_BYTES: usize = 33540;
-
 // The bytes before the first entry, and those before an entry's path.
-pub const HEAD: usize = 4;
+pub const TABLE_HEAD: usize = 4;
 
 const ENTRY_HEAD: usize = 3;
 
-// Where the switches and the marks stand.
+// Where in a table the switches and the marks stand, and where in an entry its path length.
 const SWITCHES_AT: usize = 2;
 
 const MARKS_AT: usize = 3;
+
+const LENGTH_OFFSET: usize = 1;
+
+// The bytes of the largest table.
+pub const TABLE_BYTES: usize = TABLE_HEAD + ENTRY_HEAD * MAX_ENTRIES + MAX_PATH_BYTES;
 
 // Limits: entries, the sum of their path lengths, the last kind, and all five switches.
 pub const MAX_ENTRIES: usize = 256;

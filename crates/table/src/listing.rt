@@ -1,6 +1,7 @@
 // Listing a table: how many entries it has, how many bytes it takes, and the entry at each place.
 use crate::ENTRY_HEAD;
 use crate::Kind;
+use crate::LENGTH_OFFSET;
 use crate::Listed;
 use crate::reading;
 ghost use mathlib.Core.Path.{_≡_};
@@ -49,6 +50,6 @@ pub fn entry_at(mem: &[u8], place: usize) -> Listed
         return Listed::Nothing;
     }
     let at = reading::entry_offset(mem, place);
-    let len = reading::word_at(mem, at + 1);
+    let len = reading::word_at(mem, at + LENGTH_OFFSET);
     Listed::Entry(reading::kind_from(mem[at]), at + ENTRY_HEAD, len)
 }

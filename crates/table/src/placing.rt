@@ -1,10 +1,10 @@
 // Placing an entry: where it goes in the list, and whether there is room for it. Scope, "Placing an entry".
 use crate::ENTRY_HEAD;
-use crate::HEAD;
 use crate::Kind;
 use crate::MAX_ENTRIES;
 use crate::MAX_PATH_BYTES;
 use crate::Place;
+use crate::TABLE_HEAD;
 use crate::comparing;
 use crate::reading;
 ghost use mathlib.Core.Path.{_≡_};
@@ -42,7 +42,7 @@ fn search(mem: &[u8], kind: Kind, path: &[u8]) -> Probe
     ensures { λ r. ⌜ SearchEnds (now (mem .entry)) (record { kind = kind; path = now (path .entry) }) (r .base) (r .at) ⌝ }
 {
     let mut base: usize = 0;
-    let mut at: usize = HEAD;
+    let mut at: usize = TABLE_HEAD;
     let mut size = reading::word_at(mem, 0);
     while size > 1 {
         let half = size / 2;
@@ -86,7 +86,7 @@ pub(crate) fn has_room(mem: &[u8], len: usize) -> bool
     if count >= MAX_ENTRIES {
         return false;
     }
-    let bytes = reading::entry_offset(mem, count) - HEAD - ENTRY_HEAD * count;
+    let bytes = reading::entry_offset(mem, count) - TABLE_HEAD - ENTRY_HEAD * count;
     len <= MAX_PATH_BYTES - bytes
 }
 

@@ -1,11 +1,12 @@
 // Reading a table in lent memory: numbers, kinds, switches and marks, and its entries in list order, one after the other, by a cursor.
 use crate::Cursor;
 use crate::ENTRY_HEAD;
-use crate::HEAD;
 use crate::Kind;
 use crate::KindRead;
+use crate::LENGTH_OFFSET;
 use crate::MARKS_AT;
 use crate::SWITCHES_AT;
+use crate::TABLE_HEAD;
 use crate::bits;
 ghost use mathlib.Core.Path.{_≡_};
 ghost use mathlib.Core.Bool.{true};
@@ -13,7 +14,7 @@ ghost use Prim.Native.Nat.{_+_, _<_, _≤_};
 ghost use lib.ListN.{length};
 ghost use Rattle.table.specs.Entries.{kindOf};
 ghost use Rattle.table.specs.Tables.{has, maxSwitches};
-ghost use Rattle.table.specs.Memory.{wordAt, nextAt, kindFrom, entryAt, offsetAt, tableOf, areWithin, holds};
+ghost use Rattle.table.specs.Memory.{tableHead, wordAt, nextAt, kindFrom, entryAt, offsetAt, tableOf, areWithin, holds};
 ghost use Rattle.table.specs.Reading.{Reads, firstEntry, isAtEntry, entryIn, nextEntry};
 
 // ---- bytes
@@ -64,7 +65,7 @@ pub(crate) fn entry_path(mem: &[u8], at: usize) -> &[u8]
     ensures { λ r. ⌜ now r ≡ entryAt (now (mem .entry)) at .path ⌝ }
 {
     let start = at + ENTRY_HEAD;
-    let end = start + word_at(mem, at + 1);
+    let end = start + word_at(mem, at + LENGTH_OFFSET);
     &mem[start..end]
 }
 
@@ -78,7 +79,7 @@ pub(crate) fn hop(mem: &[u8], from: usize, n: usize) -> usize
     let mut left = n;
     let mut at = from;
     while left > 0 {
-        let len = word_at(mem, at + 1);
+        let len = word_at(mem, at + LENGTH_OFFSET);
         at = at + ENTRY_HEAD + len;
         left -= 1;
     }
@@ -88,9 +89,9 @@ pub(crate) fn hop(mem: &[u8], from: usize, n: usize) -> usize
 // Where the entry at a place of the list begins; for the count, where the entries end.
 pub(crate) fn entry_offset(mem: &[u8], place: usize) -> usize
     requires { ⌜ (holds (now mem) ≡ true) × (place ≤ wordAt (now mem) 0) ⌝ }
-    ensures { λ r. ⌜ r ≡ offsetAt (now (mem .entry)) place 4 ⌝ }
+    ensures { λ r. ⌜ r ≡ offsetAt (now (mem .entry)) place tableHead ⌝ }
 {
-    hop(mem, HEAD, place)
+    hop(mem, TABLE_HEAD, place)
 }
 
 // ---- switches and marks
@@ -135,7 +136,7 @@ pub fn first(mem: &[u8]) -> Cursor
     ensures { λ r. ⌜ r ≡ firstEntry (now (mem .entry)) ⌝ }
 {
     Cursor {
-        at: HEAD,
+        at: TABLE_HEAD,
         left: word_at(mem, 0),
     }
 }
@@ -171,7 +172,7 @@ pub fn advance(mem: &[u8], cursor: Cursor) -> Cursor
     ensures { λ r. ⌜ r ≡ nextEntry (now (mem .entry)) cursor ⌝ }
 {
     let at = cursor.at;
-    let len = word_at(mem, at + 1);
+    let len = word_at(mem, at + LENGTH_OFFSET);
     Cursor {
         at: at + ENTRY_HEAD + len,
         left: cursor.left - 1,

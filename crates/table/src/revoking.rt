@@ -1,8 +1,9 @@
 // Revoking grants and setting the switches: acts on memory that holds a table. Scope, "A call comes in" (revoke).
 use crate::ENTRY_HEAD;
 use crate::GRANTED;
-use crate::HEAD;
+use crate::LENGTH_OFFSET;
 use crate::SWITCHES_AT;
+use crate::TABLE_HEAD;
 use crate::bits::clear_bit;
 use crate::reading;
 use crate::writing;
@@ -13,7 +14,7 @@ ghost use Prim.Native.Nat.{_<_, _≤_};
 ghost use lib.ListN.{length, set};
 ghost use Rattle.table.specs.Tables.{maxSwitches};
 ghost use Rattle.table.specs.Acts.{setSwitches, revoke, revokeAll};
-ghost use Rattle.table.specs.Memory.{nextAt, entryAt, tableOf, holds, put, doAct};
+ghost use Rattle.table.specs.Memory.{switchesAt, nextAt, entryAt, tableOf, holds, put, doAct};
 ghost use Rattle.table.specs.Changing.{droppedBy, dropping};
 
 // Whether a revoke drops the entry at an offset: a grant, where all of them go or its path is a prefix of q.
@@ -37,10 +38,10 @@ fn drop_grants(mem: &mut [u8], all: bool, q: &[u8])
 {
     let mut left = reading::word_at(mem, 0);
     let mut kept: usize = 0;
-    let mut from: usize = HEAD;
-    let mut to: usize = HEAD;
+    let mut from: usize = TABLE_HEAD;
+    let mut to: usize = TABLE_HEAD;
     while left > 0 {
-        let size = reading::word_at(mem, from + 1) + ENTRY_HEAD;
+        let size = reading::word_at(mem, from + LENGTH_OFFSET) + ENTRY_HEAD;
         left -= 1;
         if is_dropped(mem, from, all, q) {
             from += size;
@@ -56,8 +57,8 @@ fn drop_grants(mem: &mut [u8], all: bool, q: &[u8])
 
 // Writes the switches.
 fn write_switches(mem: &mut [u8], switches: u8)
-    requires { ⌜ 2 < length (now mem) ⌝ }
-    ensures { λ _. ⌜ now (mem .exit) ≡ set (now (mem .entry)) 2 switches ⌝ }
+    requires { ⌜ switchesAt < length (now mem) ⌝ }
+    ensures { λ _. ⌜ now (mem .exit) ≡ set (now (mem .entry)) switchesAt switches ⌝ }
 {
     mem[SWITCHES_AT] = switches;
 }

@@ -9,7 +9,7 @@ ghost use mathlib.Core.Path.{_≡_};
 ghost use Prim.Native.Nat.{_+_, _<_, _≤_};
 ghost use lib.ListN.{length, take, drop};
 ghost use Rattle.paths.specs.Copying.{overwrite, Appends};
-ghost use Rattle.table.specs.Memory.{word, headBytes, encodeEntry};
+ghost use Rattle.table.specs.Memory.{tableHead, entryHead, word, headBytes, encodeEntry};
 
 // Moves n bytes to a higher offset, the last byte first.
 pub(crate) fn move_up(mem: &mut [u8], from: usize, to: usize, n: usize)
@@ -46,7 +46,7 @@ pub(crate) fn set_count(mem: &mut [u8], n: usize)
 
 // Writes what stands before the entries: the count, the switches and the marks.
 pub fn write_head(mem: &mut [u8], n: usize, switches: u8, marks: u8)
-    requires { ⌜ (n < 65536) × (4 ≤ length (now mem)) ⌝ }
+    requires { ⌜ (n < 65536) × (tableHead ≤ length (now mem)) ⌝ }
     ensures { λ _. ⌜ now (mem .exit) ≡ overwrite (now (mem .entry)) 0 (headBytes n switches marks) ⌝ }
 {
     mem[0] = (n / 256) as u8;
@@ -57,7 +57,7 @@ pub fn write_head(mem: &mut [u8], n: usize, switches: u8, marks: u8)
 
 // Writes an entry from an offset on.
 pub(crate) fn write_entry(mem: &mut [u8], at: usize, kind: Kind, path: &[u8])
-    requires { ⌜ (length (now path) < 65536) × (at + 3 + length (now path) ≤ length (now mem)) ⌝ }
+    requires { ⌜ (length (now path) < 65536) × (at + entryHead + length (now path) ≤ length (now mem)) ⌝ }
     ensures { λ _. ⌜ now (mem .exit) ≡ overwrite (now (mem .entry)) at (encodeEntry (record { kind = kind; path = now (path .entry) })) ⌝ }
 {
     let len = path.len();
@@ -69,7 +69,7 @@ pub(crate) fn write_entry(mem: &mut [u8], at: usize, kind: Kind, path: &[u8])
 
 // Writes an entry from an offset on, and says where it ends.
 pub fn append_entry(mem: &mut [u8], at: usize, kind: Kind, path: &[u8]) -> usize
-    requires { ⌜ (length (now path) < 65536) × (at + 3 + length (now path) ≤ length (now mem)) ⌝ }
+    requires { ⌜ (length (now path) < 65536) × (at + entryHead + length (now path) ≤ length (now mem)) ⌝ }
     ensures { λ r. ⌜ Appends (encodeEntry (record { kind = kind; path = now (path .entry) })) (now (mem .entry)) at (now (mem .exit)) r ⌝ }
 {
     write_entry(mem, at, kind, path);

@@ -5,7 +5,7 @@ use mathlib.Core.List.{List}
 use native.Mathlib.Omega.{arith}
 use lib.ListN.{length, length-set}
 use denote.Ref.{now}
-use Rattle.table.specs.Memory.{wordAt, offsetAt}
+use Rattle.table.specs.Memory.{tableHead, wordAt, offsetAt}
 use Rattle.table.proofs.Within.{held, marks-of}
 use Rattle.table.proofs.Inserts.{Room, room, insert-steps}
 use borrow.Author.Needs.{needs}
@@ -19,14 +19,14 @@ start c = c .before .before .before .before .before .before .before .before
 abbrev memory : tie.After-entry-offset2 → List ℕ
 memory c = now (start c .args .mem)
 
-start-is : (c : tie.After-entry-offset2) → c .before .before .entry-offset .result ≡ offsetAt (memory c) (start c .args .place) 4
+start-is : (c : tie.After-entry-offset2) → c .before .before .entry-offset .result ≡ offsetAt (memory c) (start c .args .place) tableHead
 start-is c = c .before .before .entry-offset .ensures
 
 count-is : (c : tie.After-entry-offset2) → c .before .before .before .before .word-at .result ≡ wordAt (memory c) 0
 count-is c = c .before .before .before .before .word-at .ensures .0
 
-end-is : (c : tie.After-entry-offset2) → c .entry-offset2 .result ≡ offsetAt (memory c) (wordAt (memory c) 0) 4
-end-is c = c .entry-offset2 .ensures ∙ ap (λ (k : ℕ). offsetAt (memory c) k 4) (count-is c)
+end-is : (c : tie.After-entry-offset2) → c .entry-offset2 .result ≡ offsetAt (memory c) (wordAt (memory c) 0) tableHead
+end-is c = c .entry-offset2 .ensures ∙ ap (λ (k : ℕ). offsetAt (memory c) k tableHead) (count-is c)
 
 room-is : (c : tie.After-entry-offset2) → Room (memory c) (start c .args .place) (length (now (start c .args .path)))
 room-is c =

@@ -1,11 +1,11 @@
--- `has_room` meets its contract: the path bytes are what lies between the head and the end of the entries, less three for each entry.
+-- `has_room` meets its contract: the path bytes are what lies between the head and the end of the entries, less the head of each.
 use borrow.Author.Needs.{needs}
 use native.Mathlib.Omega.{arith}
 use Prim.Native.Nat.{_+_, _*_, _≤_}
 use mathlib.Core.Path.{_≡_, sym}
 use denote.Ref.{now}
 use Rattle.table.specs.Tables.{maxPathBytes, pathBytes}
-use Rattle.table.specs.Memory.{tableOf}
+use Rattle.table.specs.Memory.{tableHead, entryHead, tableOf}
 use Rattle.table.proofs.Within.{held}
 use Rattle.table.proofs.ProbeLaws.{ended, path-limit, room-full, room-by}
 use Rattle.table.proofs.placing.has_room.Statement.{statement}
@@ -13,7 +13,7 @@ use Rattle.table.proofs.placing.has_room.Tie as tie
 
 -- where the entries end
 end-is : (c : tie.After-entry-offset)
-    → c .entry-offset .result ≡ 4 + 3 * c .before .before .word-at .result + pathBytes (tableOf (now (c .before .before .before .before .args .mem)) .entries)
+    → c .entry-offset .result ≡ tableHead + entryHead * c .before .before .word-at .result + pathBytes (tableOf (now (c .before .before .before .before .args .mem)) .entries)
 end-is c = ended _ (c .before .before .before .before .pre) (c .before .before .word-at .ensures .0) (c .entry-offset .ensures)
 
 limit : (c : tie.After-entry-offset) → pathBytes (tableOf (now (c .before .before .before .before .args .mem)) .entries) ≤ maxPathBytes

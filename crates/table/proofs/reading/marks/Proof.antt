@@ -1,4 +1,4 @@
--- `marks` meets its contract: byte 3 of memory that holds a table is its marks.
+-- `marks` meets its contract: the byte at `marksAt` of memory that holds a table is its marks.
 use mathlib.Core.Path.{refl}
 use native.Mathlib.Omega.{arith}
 use Rattle.table.specs.Memory.{tableOf}

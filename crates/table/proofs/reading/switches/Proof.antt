@@ -1,4 +1,4 @@
--- `switches` meets its contract: byte 2 of memory that holds a table is its switches.
+-- `switches` meets its contract: the byte at `switchesAt` of memory that holds a table is its switches.
 use mathlib.Core.Path.{refl}
 use native.Mathlib.Omega.{arith}
 use Rattle.table.specs.Memory.{tableOf}

@@ -5,7 +5,7 @@ use native.Mathlib.Omega.{arith}
 use borrow.Author.Needs.{needs}
 use lib.ListN.{length}
 use Rattle.table.specs.Changing.{droppedBy}
-use Rattle.table.specs.Memory.{nextAt}
+use Rattle.table.specs.Memory.{entryHead, nextAt}
 use Rattle.table.proofs.Within.{held}
 use Rattle.table.proofs.RevokeLaws.{Kept, kept-start, next-inside, kept-skip, kept-move, kept-end}
 use Rattle.table.proofs.revoking.drop_grants.Statement.{statement}
@@ -52,7 +52,7 @@ loop-again : tie.Need-loop-again Inv-loop μ-loop
 loop-again c =
     let d = c .before in
     let t = d .before .before .before .before in
-    kept-skip (t .loop-test .taken) (t .before .loop .inv) _ _ (ap (λ (n : ℕ). n + 3) (d .before .before .word-at2 .ensures .0))
+    kept-skip (t .loop-test .taken) (t .before .loop .inv) _ _ (ap (λ (n : ℕ). n + entryHead) (d .before .before .word-at2 .ensures .0))
     (d .is-dropped .ensures) (c .if1 .taken)
 
 move-down-requires : tie.Need-move-down-requires Inv-loop μ-loop
@@ -80,7 +80,7 @@ loop-again-2 c =
     let d = i .before in
     let w = d .before .before in
     let t = w .before .before in
-    kept-move (t .loop-test .taken) (t .before .loop .inv) _ (ap (λ (n : ℕ). n + 3) (w .word-at2 .ensures .0))
+    kept-move (t .loop-test .taken) (t .before .loop .inv) _ (ap (λ (n : ℕ). n + entryHead) (w .word-at2 .ensures .0))
     (record { each = λ k. t .before .before .before .before .before .slice-known .given k .fits }) _ _ (d .is-dropped .ensures) (i .if1 .left)
     (v .move-down .ensures) (v .move-down .kept .0)
 

@@ -12,7 +12,7 @@ use Rattle.paths.specs.Giving.{isPath}
 use Rattle.table.specs.Entries.{kindOf, isKind, samePath, strictlyExtends, compareAlike, grantedOrder, compare}
 use Rattle.table.specs.Placing.{isAfter, searchFrom, search, placeBy, place, placedAt}
 use Rattle.table.specs.Tables.{has, setBit, clearBit, marked, pathBytes, isEntry, every, any, present, marksOf, isTable}
-use Rattle.table.specs.Acts.{keptUnless, without, revokedBy, insertedBy, inserted, adds, wouldAdd, hasRoom, overflows, actOverflows, applyAct}
+use Rattle.table.specs.Acts.{keptUnless, without, droppedBy, insertedBy, inserted, adds, wouldAdd, hasRoom, overflows, actOverflows, applyAct}
 use Rattle.table.specs.Carrying.{usedUp, past, carryCause}
 use Rattle.table.specs.Calls.{carried}
 use Rattle.table.specs.Memory.{tableBytes, kindIn, entriesAt, tableOf, areWithin, holds, encodeEntry, encodeAll, encode, put, doAct}
@@ -66,7 +66,7 @@ unfolding printed two-changes ninety-owed word-left board-swap no-run
     kindOf isKind samePath strictlyExtends compareAlike grantedOrder compare
     isAfter searchFrom search placeBy place placedAt
     has setBit clearBit marked pathBytes isEntry every any present marksOf isTable
-    keptUnless without revokedBy insertedBy inserted adds wouldAdd hasRoom overflows actOverflows applyAct
+    keptUnless without droppedBy insertedBy inserted adds wouldAdd hasRoom overflows actOverflows applyAct
     usedUp past carryCause carried
     kindIn entriesAt tableOf areWithin holds encodeEntry encodeAll encode put doAct
     actNumber pathWords pathPart actPart changeWords isRunWord isLength isSwitches isPathWord withBytes bytesFrom ifResolved readPath withPath readSwitches readAct withNumber readHead readFirst endedBy ended readChange

@@ -12,6 +12,7 @@ use Rattle.paths.specs.Relations.{isPrefix}
 use Rattle.paths.specs.Giving.{path}
 use Rattle.paths.proofs.ComponentLaws.{and-left}
 use Rattle.paths.proofs.RelationLaws.{prefix-refl}
+use Rattle.table.specs.declared.Dropped.the-variants.{Prefixes, All}
 use Rattle.table.specs.declared.Kind.{Kind}
 use Rattle.table.specs.declared.Kind.the-variants.{G, D, P, I}
 use Rattle.table.specs.declared.Place.{Place}
@@ -19,8 +20,9 @@ use Rattle.table.specs.declared.Place.the-variants.{Found, At}
 use Rattle.table.specs.Entries.{Entry, isGranted, samePath}
 use Rattle.table.specs.Placing.{place, placedAt}
 use Rattle.table.specs.Tables.{Table, has, setBit, clearBit, any, granted, flagDenied, flagIgnored, promptDenied}
-use Rattle.table.specs.Acts.{insert, setSwitches, revoke, revokeAll, inserted, insertedBy, keptUnless, without, revokedBy, applyAct}
+use Rattle.table.specs.Acts.{insert, setSwitches, revoke, revokeAll, inserted, insertedBy, keptUnless, without, droppedBy, applyAct}
 use Rattle.table.proofs.TableLaws.{any-more}
+use Rattle.table.proofs.ActLaws.{dropped-grants}
 use Rattle.table.proofs.FoundLaws.{found-any}
 use Rattle.walk.specs.declared.PermissionState.the-variants.{Prompt}
 use Rattle.walk.specs.declared.AllowPartial.{AllowPartial}
@@ -130,15 +132,15 @@ module _ (t : Table) (p : List ℕ) (shut : IsShut t p) where
   shut-insert e f = open-by _ p ∙ placed-shut p e (t .switches) (place (t .entries) e) (t .entries) f was
 
   pub shut-revoke : (q : List ℕ) → IsShut (applyAct t (revoke q)) p
-  unfolding applyAct revokedBy
-  shut-revoke q = open-by _ p ∙ dropped-shut (t .switches) p (revokedBy q) (λ e d. and-left (isGranted (e .kind)) _ d) (t .entries) was
+  unfolding applyAct
+  shut-revoke q = open-by _ p ∙ dropped-shut (t .switches) p (droppedBy Prefixes q) (dropped-grants Prefixes q) (t .entries) was
 
   pub shut-revoke-all : IsShut (applyAct t revokeAll) p
   unfolding applyAct
   shut-revoke-all =
       open-by _ p
-      ∙ cleared-shut (t .switches) (firstMatch p (without (λ e. isGranted (e .kind)) (t .entries)))
-      (dropped-shut (t .switches) p (λ e. isGranted (e .kind)) (λ e d. d) (t .entries) was)
+      ∙ cleared-shut (t .switches) (firstMatch p (without (droppedBy All []) (t .entries)))
+      (dropped-shut (t .switches) p (droppedBy All []) (dropped-grants All []) (t .entries) was)
 
   pub shut-eight : IsShut (applyAct t (setSwitches (setBit (t .switches) promptDenied))) p
   unfolding applyAct

@@ -32,7 +32,7 @@ use Rattle.table.specs.Acts.{
   overflows,
   keptUnless,
   without,
-  revokedBy,
+  droppedBy,
   applyAct,
   actOverflows,
   isAct,
@@ -194,7 +194,7 @@ unfolding bytes entry firstCause andThen unless
     shared common depth isPrefix numberOrder orElse inTurn pathOrder isPath resolved queryOf given
     samePath strictlyExtends compareAlike grantedOrder compare isAfter searchFrom search placeBy place placedAt
     has setBit clearBit marked any every present marksOf pathBytes isEntry isTable
-    inserted insertedBy adds wouldAdd hasRoom overflows keptUnless without revokedBy applyAct actOverflows isAct applyActs
+    inserted insertedBy adds wouldAdd hasRoom overflows keptUnless without droppedBy applyAct actOverflows isAct applyActs
     usedUp carryCause actsOf
     modeOf knownMode matchesKind matches firstMatch isFlag isFlagBelow isPartial allowed decidedBy isDeniedMode isDenied withoutMatch byMatch queryDesc
     isAllowAll answerOf

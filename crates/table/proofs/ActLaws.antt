@@ -12,6 +12,8 @@ use Rattle.refusals.specs.declared.Refusal.{Refusal}
 use Rattle.refusals.specs.declared.Refusal.the-variants.{TableFull}
 use Rattle.refusals.proofs.CauseLaws.{no-cause-head}
 use Rattle.paths.proofs.ComponentLaws.{and-left, and-right}
+use Rattle.table.specs.declared.Dropped.{Dropped}
+use Rattle.table.specs.declared.Dropped.the-variants.{Prefixes, All}
 use Rattle.table.specs.declared.Kind.{Kind}
 use Rattle.table.specs.declared.Kind.the-variants.{G, D, P, I}
 use Rattle.table.specs.declared.Numbering.{Numbering}
@@ -27,7 +29,8 @@ use Rattle.table.specs.Acts.{
   revokeAll,
   keptUnless,
   without,
-  revokedBy,
+  droppedBy,
+  dropping,
   isAct,
   actOverflows,
   applyAct,
@@ -35,7 +38,6 @@ use Rattle.table.specs.Acts.{
 }
 use Rattle.table.specs.Memory.{tableOf, holds, doAct, doActs}
 use Rattle.table.specs.Carrying.{carryCause, actsOf, outcomeOf, fits, CarriesOut}
-use Rattle.table.specs.Changing.{dropping}
 use Rattle.table.proofs.BitLaws.{clear-less}
 use Rattle.table.proofs.TableLaws.{valid-parts, parts-valid}
 use Rattle.table.proofs.FoundLaws.{table-placed}
@@ -127,16 +129,23 @@ table-switched t v h e =
     let old = valid-parts t e in
     parts-valid _ (record { few = old .few; bytes = old .bytes; each = old .each; switches = h; marks = old .marks })
 
+-- only grants are dropped
+pub dropped-grants : (which : Dropped) (q : List ℕ) (e : Entry) → droppedBy which q e ≡ true → isGranted (e .kind) ≡ true
+unfolding droppedBy
+dropped-grants which q e d = and-left (isGranted (e .kind)) _ d
+
+table-dropped : (which : Dropped) (q : List ℕ) (t : Table) → isTable t ≡ true → isTable (dropping (droppedBy which q) t) ≡ true
+table-dropped which q = table-dropping (droppedBy which q) (dropped-grants which q)
+
 table-revoked : (t : Table) (q : List ℕ) → isTable t ≡ true → isTable (applyAct t (revoke q)) ≡ true
-unfolding applyAct revokedBy
-table-revoked t q v = table-dropping (revokedBy q) (λ e d. and-left (isGranted (e .kind)) _ d) t v
+unfolding applyAct
+table-revoked t q v = table-dropped Prefixes q t v
 
 table-revoked-all : (t : Table) → isTable t ≡ true → isTable (applyAct t revokeAll) ≡ true
 unfolding applyAct
 table-revoked-all t v =
-    let f : Entry → Bool = λ e. isGranted (e .kind) in
-    table-switched (dropping f t) _ (omega (arith, clear-less (t .switches) granted, valid-parts t v .switches))
-    (table-dropping f (λ e d. d) t v)
+    table-switched (dropping (droppedBy All []) t) _ (omega (arith, clear-less (t .switches) granted, valid-parts t v .switches))
+    (table-dropped All [] t v)
 
 -- whatever the act
 pub table-acted : (t : Table) (a : Act) → isTable t ≡ true → isAct a ≡ true → actOverflows t a ≡ false → isTable (applyAct t a) ≡ true

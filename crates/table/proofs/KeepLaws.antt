@@ -17,18 +17,18 @@ use Rattle.table.specs.declared.Kind.the-variants.{D, P, I}
 use Rattle.table.specs.declared.Numbering.{Numbering}
 use Rattle.table.specs.declared.Outcome.{Outcome}
 use Rattle.table.specs.declared.Place.{Place}
+use Rattle.table.specs.declared.Dropped.the-variants.{Prefixes, All}
 use Rattle.table.specs.declared.Place.the-variants.{Found, At}
 use Rattle.table.specs.Entries.{Entry, kindNumber, isGranted, kindOf, knownKind}
 use Rattle.table.specs.Placing.{place, placedAt}
 use Rattle.table.specs.Tables.{Table, has, hasFlagDenied, hasPromptDenied, hasFlagIgnored, isEntry, present, marksOf, isTable}
-use Rattle.table.specs.Acts.{Act, insert, setSwitches, revoke, revokeAll, revokedBy, inserted, insertedBy, isAct, applyAct, applyActs}
+use Rattle.table.specs.Acts.{Act, insert, setSwitches, revoke, revokeAll, inserted, insertedBy, isAct, applyAct, applyActs}
 use Rattle.table.specs.Memory.{tableOf, holds, doActs}
 use Rattle.table.specs.Carrying.{Link, carryCause, actsOf, fits}
 use Rattle.table.specs.Calls.{tableIn, linkIn, knownSwitches, carried, actsIn, switchesCall, insertCall, SetsSwitches, Inserts}
-use Rattle.paths.proofs.ComponentLaws.{and-left}
 use Rattle.table.proofs.TableLaws.{any-more, marksBy, valid-parts}
 use Rattle.table.proofs.Puts.{valid-of}
-use Rattle.table.proofs.ActLaws.{present-without, Acted, acted-none, acted-carried}
+use Rattle.table.proofs.ActLaws.{present-without, dropped-grants, Acted, acted-none, acted-carried}
 use Rattle.table.proofs.CallLaws.{a-table}
 
 -- ---- no act clears a mark: the marks are those of the kinds present, and no act drops an entry but a G
@@ -39,11 +39,11 @@ placed-present Found k es e h = h
 placed-present (At j) k es e h = rw (any-more _ j es e, h) (or-true (eqb (kindNumber (e .kind)) (kindNumber k)))
 
 act-present : (k : Kind) → isGranted k ≡ false → (t : Table) (a : Act) → present k (t .entries) ≡ true → present k (applyAct t a .entries) ≡ true
-unfolding applyAct inserted insertedBy revokedBy
+unfolding applyAct inserted insertedBy
 act-present k g t (insert e) h = placed-present (place (t .entries) e) k (t .entries) e h
 act-present k g t (setSwitches v) h = h
-act-present k g t (revoke q) h = present-without _ (λ e d. and-left (isGranted (e .kind)) _ d) k g (t .entries) ∙ h
-act-present k g t revokeAll h = present-without _ (λ e d. d) k g (t .entries) ∙ h
+act-present k g t (revoke q) h = present-without _ (dropped-grants Prefixes q) k g (t .entries) ∙ h
+act-present k g t revokeAll h = present-without _ (dropped-grants All []) k g (t .entries) ∙ h
 
 acts-present : (k : Kind) → isGranted k ≡ false → (t : Table) (acts : List Act) → present k (t .entries) ≡ true → present k (applyActs t acts .entries) ≡ true
 unfolding applyActs

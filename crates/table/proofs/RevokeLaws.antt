@@ -3,15 +3,16 @@
 use Prim.Native.Nat.{ℕ, zero, suc, _+_, _-_, _≤_, _<_}
 use mathlib.Core.Path.{_≡_, refl, sym, ap, _∙_}
 use mathlib.Core.List.{List, [], _∷_, _++_, append-nil}
-use mathlib.Core.Bool.{Bool, true, false, _&&_, _||_}
+use mathlib.Core.Bool.{Bool, true, false}
 use native.Mathlib.Omega.{arith}
 use native.Mathlib.Nat.{add-zero}
 use lib.ListN.{length, getD, set, take, drop, length-append}
 use lib.Seq.{paste-zero, take-at, append-snoc, getD-drop}
+use Rattle.table.specs.declared.Dropped.{Dropped}
+use Rattle.table.specs.declared.Dropped.the-variants.{All}
 use Rattle.table.specs.Entries.{Entry, kindOf, isGranted}
 use Rattle.table.specs.Tables.{granted, clearBit, maxEntries}
-use Rattle.table.specs.Acts.{keptUnless, without, revokedBy, applyAct, setSwitches, revoke, revokeAll}
-use Rattle.table.specs.Changing.{droppedBy, dropping}
+use Rattle.table.specs.Acts.{setSwitches, revokeAll, keptUnless, without, selected, droppedBy, dropping, applyAct}
 use Rattle.table.specs.Memory.{
   tableHead,
   entryHead,
@@ -43,9 +44,12 @@ use Rattle.table.proofs.Overwrites.{drop-behind, over-above, headed}
 use Rattle.table.proofs.Puts.{put-self}
 use Rattle.paths.specs.Components.{Bytes}
 use Rattle.paths.specs.Copying.{overwrite}
-use Rattle.paths.specs.Relations.{isPrefix}
 
 -- ---- what a revoke drops
+
+grant-kind : (n : ℕ) → n ≡ 0 → isGranted (kindFrom n) ≡ true
+unfolding kindIn kindOf
+grant-kind n h = rw h
 
 other-kind : (n : ℕ) → (n ≡ 0 → ⊥) → isGranted (kindFrom n) ≡ false
 unfolding kindIn kindOf
@@ -55,21 +59,17 @@ other-kind (suc (suc zero)) h = refl
 other-kind (suc (suc (suc zero))) h = refl
 other-kind (suc (suc (suc (suc n)))) h = refl
 
-module _ (all : Bool) (q m : List ℕ) (at : ℕ) where
+module _ (q m : List ℕ) (at : ℕ) where
   -- an entry of another kind stays
-  pub stays : (getD m at 0 ≡ 0 → ⊥) → false ≡ droppedBy all q (entryAt m at)
+  pub stays : (which : Dropped) → (getD m at 0 ≡ 0 → ⊥) → false ≡ droppedBy which q (entryAt m at)
   unfolding droppedBy
-  stays h = rw (other-kind (getD m at 0) h)
+  stays which h = rw (other-kind (getD m at 0) h)
 
-  -- a grant goes where all go
-  pub goes : getD m at 0 ≡ 0 → all ≡ true → true ≡ droppedBy all q (entryAt m at)
-  unfolding droppedBy kindIn kindOf
-  goes e a = rw (e, a)
-
-  -- and else where its path is a prefix
-  pub goes-by-path : (r : Bool) → getD m at 0 ≡ 0 → all ≡ false → r ≡ isPrefix (entryAt m at .path) q → r ≡ droppedBy all q (entryAt m at)
-  unfolding droppedBy kindIn kindOf
-  goes-by-path r e a i = rw (e, a) i
+  -- a grant goes where it is selected
+  pub goes : {which told : Dropped} {r : Bool} → getD m at 0 ≡ 0 → which ≡ told → r ≡ selected told q (entryAt m at)
+      → r ≡ droppedBy which q (entryAt m at)
+  unfolding droppedBy
+  goes e w i = rw (grant-kind (getD m at 0) e, w) i
 
 -- ---- one step
 
@@ -226,30 +226,8 @@ switch-law m l v b h q = q ∙ ap (λ (l : List ℕ). set l switchesAt v) (sym (
 
 -- ---- every grant
 
-pub without-same : (f g : Entry → Bool) → ((e : Entry) → f e ≡ g e) → (es : List Entry) → without f es ≡ without g es
-unfolding without
-without-same f g h [] = refl
-without-same f g h (e ∷ es) = rw (h e, without-same f g h es)
-
-and-all : (a b : Bool) → a && (true || b) ≡ a
-and-all true b = refl
-and-all false b = refl
-
-all-granted : (q : List ℕ) (es : List Entry) → without (droppedBy true q) es ≡ without (λ e. isGranted (e .kind)) es
-unfolding droppedBy
-all-granted q es = without-same _ _ (λ e. and-all (isGranted (e .kind)) (isPrefix (e .path) q)) es
-
-pub revoke-law : (m l q : List ℕ) → l ≡ put (dropping (droppedBy false q) (tableOf m)) m → l ≡ doAct m (revoke q)
-unfolding doAct applyAct droppedBy revokedBy
-revoke-law m l q e = e
-
 -- every grant is dropped, and then the switch is cleared
-pub revoke-all-law : (m l l′ q : List ℕ) (v : ℕ) → l ≡ put (dropping (droppedBy true q) (tableOf m)) m
+pub revoke-all-law : (m l l′ q : List ℕ) (v : ℕ) → l ≡ put (dropping (droppedBy All q) (tableOf m)) m
     → v ≡ clearBit (getD l switchesAt 0) granted → l′ ≡ set l switchesAt v → l′ ≡ doAct m revokeAll
-unfolding doAct put encode applyAct
-revoke-all-law m l l′ q v e c s =
-    let t = tableOf m in
-    let d : l ≡ put (dropping (λ x. isGranted (x .kind)) t) m =
-    e ∙ ap (λ (es : List Entry). put (record { entries = es; switches = t .switches; marks = t .marks }) m) (all-granted q (t .entries))
-    in
-    s ∙ rw (c, d)
+unfolding doAct put encode applyAct droppedBy
+revoke-all-law m l l′ q v e c s = s ∙ rw (c, e)

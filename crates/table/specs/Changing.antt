@@ -3,15 +3,14 @@ use Prim.Native.Nat.{ℕ}
 use mathlib.Core.Path.{_≡_}
 use mathlib.Core.List.{List}
 use mathlib.Core.Option.{Option, none, some}
-use mathlib.Core.Bool.{Bool, false, _&&_, _||_, not, cond}
+use mathlib.Core.Bool.{Bool, false, not, cond}
 use Rattle.refusals.specs.declared.Refusal.the-variants.{TableFull, NumbersUsedUp}
-use Rattle.paths.specs.Relations.{isPrefix}
 use Rattle.table.specs.declared.Outcome.{Outcome}
 use Rattle.table.specs.declared.Outcome.the-variants.{Done, Refused}
-use Rattle.table.specs.Entries.{Entry, isGranted}
+use Rattle.table.specs.Entries.{Entry}
 use Rattle.table.specs.Placing.{search}
 use Rattle.table.specs.Tables.{Table}
-use Rattle.table.specs.Acts.{Act, insert, overflows, actOverflows, without}
+use Rattle.table.specs.Acts.{Act, insert, overflows, actOverflows}
 use Rattle.table.specs.Memory.{tableHead, offsetAt, tableOf, doAct, doActs}
 use Rattle.table.specs.Carrying.{actsOf}
 
@@ -24,16 +23,6 @@ pub record SearchEnds (m : List ℕ) (e : Entry) (base at : ℕ) : Type 0 where
 pub record InsertsEntry (m m′ : List ℕ) (e : Entry) (done : Bool) : Type 0 where
   pub answer : done ≡ not (overflows (tableOf m) e)
   pub bytes : m′ ≡ cond (overflows (tableOf m) e) m (doAct m (insert e))
-
--- ---- revoke
-
--- a G, where all of them go or its path is a prefix of q
-unfoldable pub droppedBy : Bool → List ℕ → Entry → Bool
-droppedBy all q e = isGranted (e .kind) && (all || isPrefix (e .path) q)
-
--- the table without the entries that are dropped
-abbrev pub dropping : (Entry → Bool) → Table → Table
-dropping dropped t = record { entries = without dropped (t .entries); switches = t .switches; marks = t .marks }
 
 -- ---- any act, if there is one
 

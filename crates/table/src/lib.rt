@@ -81,6 +81,12 @@ pub enum Place {
     At(usize),
 }
 
+// Which grants an act drops: those whose path is a prefix of the act's, or all.
+pub enum Dropped {
+    Prefixes,
+    All,
+}
+
 // What a call makes of a table: nothing, or an act, without its path, which is lent beside it.
 pub enum Action {
     Nothing,

@@ -1,4 +1,5 @@
 // Revoking grants and setting the switches: acts on memory that holds a table. Scope, "A call comes in" (revoke).
+use crate::Dropped;
 use crate::ENTRY_HEAD;
 use crate::GRANTED;
 use crate::LENGTH_OFFSET;
@@ -13,28 +14,27 @@ ghost use mathlib.Core.Bool.{true};
 ghost use Prim.Native.Nat.{_<_, _≤_};
 ghost use lib.ListN.{length, set};
 ghost use Rattle.table.specs.Tables.{maxSwitches};
-ghost use Rattle.table.specs.Acts.{setSwitches, revoke, revokeAll};
+ghost use Rattle.table.specs.Acts.{setSwitches, revoke, revokeAll, droppedBy, dropping};
 ghost use Rattle.table.specs.Memory.{switchesAt, nextAt, entryAt, tableOf, holds, put, doAct};
-ghost use Rattle.table.specs.Changing.{droppedBy, dropping};
 
-// Whether a revoke drops the entry at an offset: a grant, where all of them go or its path is a prefix of q.
-fn is_dropped(mem: &[u8], at: usize, all: bool, q: &[u8]) -> bool
+// Whether a revoke drops the entry at an offset: a grant that is selected.
+fn is_dropped(mem: &[u8], at: usize, which: Dropped, q: &[u8]) -> bool
     requires { ⌜ nextAt (now mem) at ≤ length (now mem) ⌝ }
-    ensures { λ r. ⌜ r ≡ droppedBy all (now (q .entry)) (entryAt (now (mem .entry)) at) ⌝ }
+    ensures { λ r. ⌜ r ≡ droppedBy which (now (q .entry)) (entryAt (now (mem .entry)) at) ⌝ }
 {
     if mem[at] != 0 {
         return false;
     }
-    if all {
-        return true;
+    match which {
+        Dropped::Prefixes => is_prefix(reading::entry_path(mem, at), q),
+        Dropped::All => true,
     }
-    is_prefix(reading::entry_path(mem, at), q)
 }
 
 // Drops the grants that a revoke drops, and closes the gaps: each entry that stays is moved down at most once.
-fn drop_grants(mem: &mut [u8], all: bool, q: &[u8])
+fn drop_grants(mem: &mut [u8], which: Dropped, q: &[u8])
     requires { ⌜ holds (now mem) ≡ true ⌝ }
-    ensures { λ _. ⌜ now (mem .exit) ≡ put (dropping (droppedBy all (now (q .entry))) (tableOf (now (mem .entry)))) (now (mem .entry)) ⌝ }
+    ensures { λ _. ⌜ now (mem .exit) ≡ put (dropping (droppedBy which (now (q .entry))) (tableOf (now (mem .entry)))) (now (mem .entry)) ⌝ }
 {
     let mut left = reading::word_at(mem, 0);
     let mut kept: usize = 0;
@@ -43,7 +43,7 @@ fn drop_grants(mem: &mut [u8], all: bool, q: &[u8])
     while left > 0 {
         let size = reading::word_at(mem, from + LENGTH_OFFSET) + ENTRY_HEAD;
         left -= 1;
-        if is_dropped(mem, from, all, q) {
+        if is_dropped(mem, from, which, q) {
             from += size;
         } else {
             writing::move_down(mem, from, to, size);
@@ -68,7 +68,7 @@ pub(crate) fn revoke_path(mem: &mut [u8], q: &[u8])
     requires { ⌜ holds (now mem) ≡ true ⌝ }
     ensures { λ _. ⌜ now (mem .exit) ≡ doAct (now (mem .entry)) (revoke (now (q .entry))) ⌝ }
 {
-    drop_grants(mem, false, q);
+    drop_grants(mem, Dropped::Prefixes, q);
 }
 
 // Drops every grant, and clears the switch of the grants.
@@ -76,7 +76,7 @@ pub(crate) fn revoke_grants(mem: &mut [u8])
     requires { ⌜ holds (now mem) ≡ true ⌝ }
     ensures { λ _. ⌜ now (mem .exit) ≡ doAct (now (mem .entry)) revokeAll ⌝ }
 {
-    drop_grants(mem, true, b"");
+    drop_grants(mem, Dropped::All, b"");
     let switches = clear_bit(mem[SWITCHES_AT], GRANTED);
     write_switches(mem, switches);
 }

@@ -21,7 +21,7 @@ use Rattle.walk.specs.Walk.{
 use Rattle.table.specs.Entries.{isGranted, samePath, strictlyExtends, compareAlike, grantedOrder, compare}
 use Rattle.table.specs.Placing.{isAfter, searchFrom, search, placeBy, place, placedAt}
 use Rattle.table.specs.Tables.{has, setBit, clearBit, marked, any}
-use Rattle.table.specs.Acts.{insertedBy, inserted, keptUnless, without, revokedBy, applyAct, applyActs}
+use Rattle.table.specs.Acts.{insertedBy, inserted, keptUnless, without, droppedBy, applyAct, applyActs}
 use Rattle.paths.specs.Components.{same, grown, parted, pieces, withoutEmpty, components, slashed, spell}
 use Rattle.paths.specs.Resolving.{isAbsolute, join, entered, enterAll, normalize, resolve}
 use Rattle.paths.specs.Relations.{shared, common, depth, isPrefix, numberOrder, orElse, inTurn, pathOrder, less}
@@ -39,7 +39,7 @@ unfolding Right bytes entry
     samePath strictlyExtends compareAlike grantedOrder compare
     isAfter searchFrom search placeBy place placedAt
     has setBit clearBit marked any
-    insertedBy inserted keptUnless without revokedBy applyAct applyActs
+    insertedBy inserted keptUnless without droppedBy applyAct applyActs
     same grown parted pieces withoutEmpty components slashed spell
     isAbsolute join entered enterAll normalize resolve
     shared common depth isPrefix numberOrder orElse inTurn pathOrder

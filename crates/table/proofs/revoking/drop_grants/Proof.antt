@@ -4,7 +4,7 @@ use mathlib.Core.Path.{ap}
 use native.Mathlib.Omega.{arith}
 use borrow.Author.Needs.{needs}
 use lib.ListN.{length}
-use Rattle.table.specs.Changing.{droppedBy}
+use Rattle.table.specs.Acts.{droppedBy}
 use Rattle.table.specs.Memory.{entryHead, nextAt}
 use Rattle.table.proofs.Within.{held}
 use Rattle.table.proofs.RevokeLaws.{Kept, kept-start, next-inside, kept-skip, kept-move, kept-end}
@@ -12,10 +12,10 @@ use Rattle.table.proofs.revoking.drop_grants.Statement.{statement}
 use Rattle.table.proofs.revoking.drop_grants.Tie as tie
 
 abbrev Inv-loop : tie.InvT-loop
-Inv-loop mem₀ all q left₀ kept₀ from₀ to₀ mem left kept from to = Kept (droppedBy all q) mem₀ mem left kept from to
+Inv-loop mem₀ which q left₀ kept₀ from₀ to₀ mem left kept from to = Kept (droppedBy which q) mem₀ mem left kept from to
 
 abbrev μ-loop : tie.MeasureT-loop
-μ-loop mem₀ all q left₀ kept₀ from₀ to₀ mem left kept from to = left
+μ-loop mem₀ which q left₀ kept₀ from₀ to₀ mem left kept from to = left
 
 -- the entry that comes next lies within the memory
 inside : (c : tie.In-loop Inv-loop μ-loop) → nextAt (c .before .loop .mem) (c .before .loop .from) ≤ length (c .before .loop .mem)

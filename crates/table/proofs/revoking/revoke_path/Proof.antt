@@ -1,5 +1,6 @@
 -- `revoke_path` meets its contract: what is dropped is what the act drops.
-use Rattle.table.proofs.RevokeLaws.{revoke-law}
+use Rattle.table.specs.Acts.{applyAct}
+use Rattle.table.specs.Memory.{doAct}
 use borrow.Author.Needs.{needs}
 use Rattle.table.proofs.revoking.revoke_path.Statement.{statement}
 use Rattle.table.proofs.revoking.revoke_path.Tie as tie
@@ -11,7 +12,8 @@ same-length : tie.Need-same-length
 same-length c = search needs
 
 returns : tie.Need-returns
-returns c = revoke-law _ _ _ (c .before .before .drop-grants .ensures)
+unfolding doAct applyAct
+returns c = c .before .before .drop-grants .ensures
 
 pub revoke-path-spec : {M : Type 1} → statement M
 revoke-path-spec = tie.close (tie.spec drop-grants-requires same-length returns)

@@ -12,12 +12,12 @@ use Rattle.refusals.specs.Refusals.{Result, refused, ok, andThen, unless}
 use Rattle.refusals.proofs.CauseLaws.{no-cause-head, unless-ok}
 use Rattle.paths.specs.Giving.{isPath, resolved}
 use Rattle.paths.proofs.GivingLaws.{resolved-fits}
+use Rattle.table.specs.declared.Dropped.the-variants.{Prefixes, All}
 use Rattle.table.specs.declared.Kind.{Kind}
 use Rattle.table.specs.declared.Kind.the-variants.{D, P, I}
 use Rattle.table.specs.declared.Numbering.{Numbering}
 use Rattle.table.specs.declared.Outcome.{Outcome}
 use Rattle.table.specs.declared.Place.{Place}
-use Rattle.table.specs.declared.Dropped.the-variants.{Prefixes, All}
 use Rattle.table.specs.declared.Place.the-variants.{Found, At}
 use Rattle.table.specs.Entries.{Entry, kindNumber, isGranted, kindOf, knownKind}
 use Rattle.table.specs.Placing.{place, placedAt}

@@ -1,5 +1,5 @@
--- What is printed of some input, by the definitions: the scope's example, changes that are owed, words left over behind a record, a board swap, a record without
--- its run word, bytes that are escaped, and a large number.
+-- What is printed of some input, by the definitions: the scope's example, changes that are owed, words left over after a record, a board swap, and a record without
+-- its run word.
 use Prim.Native.Nat.{ℕ}
 use mathlib.Core.Path.{_≡_, refl}
 use mathlib.Core.List.{List, [], _∷_, _++_}
@@ -19,9 +19,10 @@ use Rattle.table.specs.Memory.{tableBytes, kindIn, entriesAt, tableOf, areWithi
 use Rattle.records.specs.Records.{actNumber, pathWords, pathPart, actPart, changeWords, isRunWord, isLength, isSwitches, isPathWord, withBytes, bytesFrom, ifResolved, readPath, withPath, readSwitches, readAct, withNumber, readHead, readFirst, endedBy, ended, readChange}
 use Rattle.standby.specs.Arriving.{conflict, standbyIn, wellFormed, higher, met, applied, inRun, moved, taken, arrival}
 use Rattle.standby.specs.Owing.{owedOf}
-use Rattle.holdlist.specs.Escaping.{isPlain, escapedByte, escaped}
+use Rattle.text.specs.Text.{text, newline, decimalBy}
+use Rattle.text.specs.Escaping.{isPlain, escapedByte, escaped}
 use Rattle.holdlist.specs.Holding.{wordsOf, stop, afterArrival, afterRecord, afterNext, heldFrom, unnumbered, held}
-use Rattle.holdlist.specs.Lines.{text, newline, decimalBy, decimal, header, entryLine, entryLines, stoppedLine, listing}
+use Rattle.holdlist.specs.Lines.{header, entryLine, entryLines, stoppedLine, listing}
 
 -- what is printed of some input
 printed : List ℕ → List ℕ
@@ -56,8 +57,6 @@ examples : (printed two-changes ≡ text "entries 2 changes 2 owed 0 switches 0 
     × (printed word-left ≡ text "entries 0 changes 1 owed 0 switches 0 marks 0" ++ newline ++ text "stopped at word 2" ++ newline)
     × (printed board-swap ≡ text "entries 0 changes 1 owed 0 switches 16 marks 0" ++ newline)
     × (printed no-run ≡ text "entries 0 changes 0 owed 0 switches 0 marks 0" ++ newline ++ text "stopped at word 0" ++ newline)
-    × (escaped (0x2F ∷ 0x20 ∷ 0x25 ∷ 0x00 ∷ 0x7F ∷ 0xFF ∷ 0x21 ∷ 0x7E ∷ []) ≡ text "/%20%25%00%7F%FF!~")
-    × (decimal 18446744073709551615 ≡ text "18446744073709551615")
 unfolding printed two-changes ninety-owed word-left board-swap no-run
     firstCause andThen unless
     same grown parted pieces withoutEmpty components slashed spell
@@ -74,4 +73,4 @@ unfolding printed two-changes ninety-owed word-left board-swap no-run
     isPlain escapedByte escaped
     wordsOf stop afterArrival afterRecord afterNext heldFrom
     decimalBy header entryLine entryLines stoppedLine listing
-examples = (refl, refl, refl, refl, refl, refl, refl)
+examples = (refl, refl, refl, refl, refl)

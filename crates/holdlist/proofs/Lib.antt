@@ -1,8 +1,6 @@
 pub mod WordLaws
 pub mod HoldingLaws
 pub mod PartLaws
-pub mod EscapeLaws
-pub mod DecimalLaws
 pub mod LineLaws
 pub mod InputLaws
 pub mod KeepLaws

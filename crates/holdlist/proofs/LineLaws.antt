@@ -1,12 +1,11 @@
--- Laws of the lines: pieces written one behind the other, how long each line is, and the loop over the entries.
+-- Laws of the lines: how long each is, and the loop over the entries.
 use Prim.Native.Nat.{ℕ, _+_, _*_, _≤_}
 use mathlib.Core.Path.{_≡_, refl, sym, ap, _∙_}
 use mathlib.Core.List.{List, [], _∷_, _++_, append-nil, append-assoc}
 use mathlib.Core.Bool.{Bool, true, false, cond}
 use native.Mathlib.Omega.{arith}
-use lib.ListN.{length, take, length-append}
+use lib.ListN.{length, length-append}
 use Rattle.refusals.specs.declared.Refusal.{Refusal}
-use Rattle.io.specs.Digits.{digits, Fewest}
 use Rattle.paths.specs.Copying.{Appends}
 use Rattle.table.specs.declared.Kind.{Kind}
 use Rattle.table.specs.declared.Cursor.{Cursor}
@@ -24,38 +23,23 @@ use Rattle.standby.specs.declared.Owed.the-variants.{Changes, Refused}
 use Rattle.standby.specs.Arriving.{conflict}
 use Rattle.standby.specs.Owing.{owedOf, Owes}
 use Rattle.standby.proofs.OwingLaws.{owing-exact}
-use Rattle.holdlist.specs.Escaping.{escaped}
+use Rattle.text.specs.Text.{newline, labelled, kindLetter}
+use Rattle.text.specs.Escaping.{escapedBytes, escaped}
+use Rattle.text.proofs.EscapeLaws.{escaped-long}
+use Rattle.text.proofs.DecimalLaws.{decimal-few}
+use Rattle.text.proofs.PieceLaws.{then}
 use Rattle.holdlist.specs.Holding.{Standing}
 use Rattle.holdlist.specs.Lines.{
-  newline,
-  decimal,
-  labelled,
+  headerBytes,
   header,
-  kindLetter,
+  lineBytes,
   entryLine,
   entryLines,
+  entriesBytes,
+  stoppedBytes,
   stoppedLine,
   listing,
 }
-use Rattle.holdlist.proofs.EscapeLaws.{escaped-long}
-use Rattle.holdlist.proofs.DecimalLaws.{decimal-long, decimal-digits}
-
--- ---- pieces
-
--- one behind the other, where the first ends within the space
-pub then : {s m : List ℕ} {at : ℕ} {m′ : List ℕ} {n : ℕ} {s′ m″ : List ℕ} {n′ : ℕ} → n ≤ length m → Appends s m at m′ n → Appends s′ m′ n m″ n′
-    → Appends (s ++ s′) m at m″ n′
-then h a b = appends-more (omega (arith, a .end)) a b
-
--- a number behind its label
-pub number-behind : (label : List ℕ) (n : ℕ) (out : List ℕ) {m : List ℕ} {at : ℕ} {m′ : List ℕ} {from : ℕ} {m″ : List ℕ} {r : ℕ} (k : ℕ)
-    → at + length label + 20 ≤ length m → k ≤ 20 → Fewest 10 1 n k → take k out ≡ digits 10 k n
-    → Appends label m at m′ from → Appends (take k out) m′ from m″ r → Appends (label ++ decimal n) m at m″ r
-number-behind label n out k h few F d a b = then (omega (arith, a .end)) a (appends-as (d ∙ decimal-digits k 20 n F few) b)
-
-pub labelled-end : (label : List ℕ) (n : ℕ) {m : List ℕ} {at : ℕ} {m′ : List ℕ} {r : ℕ} → Appends (label ++ decimal n) m at m′ r
-    → r ≤ at + length label + 20
-labelled-end label n A = omega (arith, A .end, length-append label (decimal n), decimal-long 20 n)
 
 -- ---- what is owed
 
@@ -73,41 +57,41 @@ module _ (s : Numbers) (good : conflict s ≡ false) {owed : Owed} (O : Owes s o
 -- ---- the header
 
 module _ (t : Table) (s : Numbers) where
-  header-long : length (header t s) ≤ 141
+  header-long : length (header t s) ≤ headerBytes
   unfolding header
   header-long =
       simp length-append
       (omega (
         arith,
-        decimal-long 20 (length (t .entries)),
-        decimal-long 20 (s .n),
-        decimal-long 20 (owedOf s),
-        decimal-long 20 (t .switches),
-        decimal-long 20 (t .marks),
+        decimal-few (length (t .entries)),
+        decimal-few (s .n),
+        decimal-few (owedOf s),
+        decimal-few (t .switches),
+        decimal-few (t .marks),
       ))
 
-  pub header-end : {m m′ : List ℕ} {r : ℕ} → Appends (header t s) m 0 m′ r → r ≤ 141
+  pub header-end : {m m′ : List ℕ} {r : ℕ} → Appends (header t s) m 0 m′ r → r ≤ headerBytes
   header-end A = omega (arith, A .end, header-long)
 
-  pub header-written : (count owed switches marks : ℕ) {m m₁ m₂ m₃ m₄ m₅ m₆ : List ℕ} {n₁ n₂ n₃ n₄ n₅ r : ℕ} → 141 ≤ length m
+  pub header-written : (count owed switches marks : ℕ) {m m₁ m₂ m₃ m₄ m₅ m₆ : List ℕ} {n₁ n₂ n₃ n₄ n₅ r : ℕ} → headerBytes ≤ length m
       → count ≡ length (t .entries) → owed ≡ owedOf s → switches ≡ t .switches → marks ≡ t .marks
       → Appends (labelled "entries " count) m 0 m₁ n₁ → Appends (labelled " changes " (s .n)) m₁ n₁ m₂ n₂ → Appends (labelled " owed " owed) m₂ n₂ m₃ n₃
       → Appends (labelled " switches " switches) m₃ n₃ m₄ n₄ → Appends (labelled " marks " marks) m₄ n₄ m₅ n₅ → Appends newline m₅ n₅ m₆ r
       → Appends (header t s) m 0 m₆ r
   unfolding header
   header-written count owed switches marks h c ow sw mk a b o d e f =
-      let l₁ = decimal-long 20 count in
-      let l₂ = decimal-long 20 (s .n) in
-      let l₃ = decimal-long 20 owed in
-      let l₄ = decimal-long 20 switches in
-      let l₅ = decimal-long 20 marks in
+      let l₁ = decimal-few count in
+      let l₂ = decimal-few (s .n) in
+      let l₃ = decimal-few owed in
+      let l₄ = decimal-few switches in
+      let l₅ = decimal-few marks in
       rw (sym c, sym ow, sym sw, sym mk)
       (then (omega arith) (then (omega arith) (then (omega arith) (then (omega arith) (then (omega arith) a b) o) d) e) f)
 
 -- ---- entries
 
 pub entry-written : (kind : Kind) (path : List ℕ) (letter : ℕ) {m : List ℕ} {at : ℕ} {m₁ m₂ m₃ : List ℕ} {n₁ n₂ r : ℕ} → letter ≡ kindLetter kind
-    → at + 3 * length path + 3 ≤ length m
+    → at + escapedBytes * length path + lineBytes ≤ length m
     → Appends (letter ∷ 32 ∷ []) m at m₁ n₁ → Appends (escaped path) m₁ n₁ m₂ n₂ → Appends newline m₂ n₂ m₃ r
     → Appends (entryLine (record { kind = kind; path = path })) m at m₃ r
 unfolding entryLine
@@ -115,21 +99,21 @@ entry-written kind path letter e h a b c =
     let l = escaped-long path in
     rw (sym e) (then (omega arith) (then (omega arith) a b) c)
 
-entry-long : (e : Entry) → length (entryLine e) ≤ 3 * length (e .path) + 3
+entry-long : (e : Entry) → length (entryLine e) ≤ escapedBytes * length (e .path) + lineBytes
 unfolding entryLine
 entry-long e = simp length-append (omega (arith, escaped-long (e .path)))
 
--- the lines so far, with those of the entries from the cursor on behind them, are all the lines, and there is room for them
+-- the lines so far, with those of the entries from the cursor on after them, are all the lines, and there is room for them
 pub record Lining (m space : List ℕ) (at : ℕ) (space′ : List ℕ) (end : ℕ) (c : Cursor) : Type 0 where
   pub done : List ℕ
   pub written : Appends done space at space′ end
   pub whole : done ++ entryLines (entriesFrom m c) ≡ entryLines (tableOf m .entries)
   pub place : InList m c
-  pub room : end + 3 * pathBytes (entriesFrom m c) + 3 * length (entriesFrom m c) ≤ length space
+  pub room : end + escapedBytes * pathBytes (entriesFrom m c) + lineBytes * length (entriesFrom m c) ≤ length space
   pub same : length space′ ≡ length space
 
 pub lining-start : (m space : List ℕ) (at : ℕ) {c : Cursor} → c ≡ firstEntry m → holds m ≡ true
-    → at + 3 * pathBytes (tableOf m .entries) + 3 * length (tableOf m .entries) ≤ length space → Lining m space at space at c
+    → at + escapedBytes * pathBytes (tableOf m .entries) + lineBytes * length (tableOf m .entries) ≤ length space → Lining m space at space at c
 lining-start m space at e h r =
     rw e
     (record {
@@ -150,7 +134,7 @@ module _ {m space : List ℕ} {at : ℕ} {space′ : List ℕ} {end : ℕ} {c : 
     pub lining-reads : Reads m c
     lining-reads = record { rest = L .place; more = here }
 
-    pub lining-room : end + 3 * length (entryIn m c .path) + 3 ≤ length space′
+    pub lining-room : end + escapedBytes * length (entryIn m c .path) + lineBytes ≤ length space′
     unfolding pathBytes
     lining-room = omega (arith, rw (from-entry m c here) at (L .room), L .same)
 
@@ -174,22 +158,22 @@ module _ {m space : List ℕ} {at : ℕ} {space′ : List ℕ} {end : ℕ} {c : 
 
 -- ---- all that is printed
 
-pub stopped-written : (w : ℕ) {m : List ℕ} {at : ℕ} {m₁ m₂ : List ℕ} {n₁ r : ℕ} → at + 37 ≤ length m
+pub stopped-written : (w : ℕ) {m : List ℕ} {at : ℕ} {m₁ m₂ : List ℕ} {n₁ r : ℕ} → at + stoppedBytes ≤ length m
     → Appends (labelled "stopped at word " w) m at m₁ n₁ → Appends newline m₁ n₁ m₂ r → Appends (stoppedLine w) m at m₂ r
 unfolding stoppedLine
-stopped-written w h a b = let l = decimal-long 20 w in then (omega arith) a b
+stopped-written w h a b = let l = decimal-few w in then (omega arith) a b
 
-lines-long : (es : List Entry) → length (entryLines es) ≤ 3 * pathBytes es + 3 * length es
+lines-long : (es : List Entry) → length (entryLines es) ≤ escapedBytes * pathBytes es + lineBytes * length es
 unfolding entryLines pathBytes
 lines-long [] = omega arith
 lines-long (e ∷ es) = omega (arith, length-append (entryLine e) (entryLines es), entry-long e, lines-long es)
 
 -- the limits of a table
 module _ (mem : List ℕ) (h : holds mem ≡ true) where
-  pub entries-room : 3 * pathBytes (tableOf mem .entries) + 3 * length (tableOf mem .entries) ≤ 99072
+  pub entries-room : escapedBytes * pathBytes (tableOf mem .entries) + lineBytes * length (tableOf mem .entries) ≤ entriesBytes
   entries-room = let limits = valid-parts (tableOf mem) (valid-of mem h) in omega (arith, limits .few, limits .bytes)
 
-  pub entries-end : {m : List ℕ} {at : ℕ} {m′ : List ℕ} {r : ℕ} → Appends (entryLines (tableOf mem .entries)) m at m′ r → r ≤ at + 99072
+  pub entries-end : {m : List ℕ} {at : ℕ} {m′ : List ℕ} {r : ℕ} → Appends (entryLines (tableOf mem .entries)) m at m′ r → r ≤ at + entriesBytes
   entries-end A = omega (arith, A .end, entries-room, lines-long (tableOf mem .entries))
 
 listing-by : (s : Standing) (b : Bool) → s .stopped ≡ b

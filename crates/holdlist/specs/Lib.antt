@@ -1,4 +1,3 @@
 pub mod Holding
 pub mod Input
-pub mod Escaping
 pub mod Lines

@@ -1,7 +1,7 @@
 -- `append_entry` meets its contract.
 use native.Mathlib.Omega.{arith}
 use denote.Ref.{now}
-use Rattle.holdlist.proofs.EscapeLaws.{escaped-long}
+use Rattle.text.proofs.EscapeLaws.{escaped-long}
 use Rattle.holdlist.proofs.LineLaws.{entry-written}
 use borrow.Author.Needs.{needs}
 use Rattle.holdlist.proofs.printing.append_entry.Statement.{statement}

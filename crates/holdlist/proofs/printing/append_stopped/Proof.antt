@@ -1,6 +1,6 @@
 -- `append_stopped` meets its contract.
 use native.Mathlib.Omega.{arith}
-use Rattle.holdlist.proofs.DecimalLaws.{decimal-long}
+use Rattle.text.proofs.DecimalLaws.{decimal-few}
 use Rattle.holdlist.proofs.LineLaws.{stopped-written}
 use borrow.Author.Needs.{needs}
 use Rattle.holdlist.proofs.printing.append_stopped.Statement.{statement}
@@ -16,7 +16,7 @@ slice-aggregate-append : tie.Need-slice-aggregate-append
 slice-aggregate-append c = search needs
 
 append-requires : tie.Need-append-requires
-append-requires c κs = let start = c .before .before .before .before .before .before .before .before in omega (arith, decimal-long 20 (start .args .words), start .pre)
+append-requires c κs = let start = c .before .before .before .before .before .before .before .before in omega (arith, decimal-few (start .args .words), start .pre)
 
 same-length : tie.Need-same-length
 same-length c = search needs

@@ -3,8 +3,9 @@ use Prim.Native.Nat.{_≤_}
 use native.Mathlib.Omega.{arith}
 use denote.Ref.{now}
 use Rattle.table.specs.Memory.{tableOf}
-use Rattle.holdlist.specs.Lines.{text}
-use Rattle.holdlist.proofs.LineLaws.{labelled-end, header-written}
+use Rattle.text.specs.Text.{text}
+use Rattle.text.proofs.PieceLaws.{labelled-end}
+use Rattle.holdlist.proofs.LineLaws.{header-written}
 use borrow.Author.Needs.{needs}
 use Rattle.holdlist.proofs.printing.write_header.Statement.{statement}
 use Rattle.holdlist.proofs.printing.write_header.Tie as tie

@@ -1,9 +1,9 @@
 -- `hex_digit` meets its contract.
 use native.Mathlib.Omega.{arith}
-use Rattle.holdlist.proofs.EscapeLaws.{digit-low, digit-high}
+use Rattle.text.proofs.EscapeLaws.{digit-low, digit-high}
 use borrow.Author.Needs.{needs}
-use Rattle.holdlist.proofs.printing.hex_digit.Statement.{statement}
-use Rattle.holdlist.proofs.printing.hex_digit.Tie as tie
+use Rattle.text.proofs.escaping.hex_digit.Statement.{statement}
+use Rattle.text.proofs.escaping.hex_digit.Tie as tie
 
 add-result : tie.Need-add-result
 add-result c = search needs

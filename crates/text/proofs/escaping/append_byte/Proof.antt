@@ -1,9 +1,9 @@
 -- `append_byte` meets its contract.
 use mathlib.Core.Path.{sym, _∙_}
-use Rattle.holdlist.proofs.EscapeLaws.{byte-plain, byte-escaped}
+use Rattle.text.proofs.EscapeLaws.{byte-plain, byte-escaped}
 use borrow.Author.Needs.{needs}
-use Rattle.holdlist.proofs.printing.append_byte.Statement.{statement}
-use Rattle.holdlist.proofs.printing.append_byte.Tie as tie
+use Rattle.text.proofs.escaping.append_byte.Statement.{statement}
+use Rattle.text.proofs.escaping.append_byte.Tie as tie
 
 is-plain-requires : tie.Need-is-plain-requires
 is-plain-requires c κs = search needs

@@ -11,7 +11,7 @@ use lib.Dec.{leb, eqb}
 use borrow.Author.Tests.{lt-ltb, le-ltb, le-leb, lt-leb}
 use Rattle.paths.specs.Copying.{Appends}
 use Rattle.table.proofs.Overwrites.{appends-none, appends-as, appends-more}
-use Rattle.holdlist.specs.Escaping.{percent, isPlain, digit, escapedByte, escaped}
+use Rattle.text.specs.Escaping.{escapedBytes, percent, isPlain, digit, escapedByte, escaped}
 
 -- ---- digits
 
@@ -53,11 +53,11 @@ module _ (b : ℕ) {m : List ℕ} {at : ℕ} {m′ : List ℕ} {r : ℕ} where
   unfolding escapedByte
   byte-escaped e high low A = rw (e, sym high, sym low) A
 
-byte-long : (b : ℕ) → length (escapedByte b) ≤ 3
+byte-long : (b : ℕ) → length (escapedByte b) ≤ escapedBytes
 unfolding escapedByte
 byte-long b = by (isPlain b)
   where
-    by : (c : Bool) → length (cond c (b ∷ []) (percent ∷ digit (b / 16) ∷ digit (b % 16) ∷ [])) ≤ 3
+    by : (c : Bool) → length (cond c (b ∷ []) (percent ∷ digit (b / 16) ∷ digit (b % 16) ∷ [])) ≤ escapedBytes
     by true = omega arith
     by false = omega arith
 
@@ -76,7 +76,7 @@ escaped-more : (p : List ℕ) (i : ℕ) → i < length p → escaped (take (i + 
 escaped-more p i h =
     rw (add-one i, take-suc p i 0 h) (escaped-append (take i p) (getD p i 0 ∷ []) ∙ ap (λ (l : List ℕ). escaped (take i p) ++ l) (escaped-one (getD p i 0)))
 
-pub escaped-long : (p : List ℕ) → length (escaped p) ≤ 3 * length p
+pub escaped-long : (p : List ℕ) → length (escaped p) ≤ escapedBytes * length p
 unfolding escaped
 escaped-long [] = omega arith
 escaped-long (b ∷ p) = omega (arith, length-append (escapedByte b) (escaped p), byte-long b, escaped-long p)
@@ -85,10 +85,10 @@ escaped-long (b ∷ p) = omega (arith, length-append (escapedByte b) (escaped p)
 pub record Escaping (path space : List ℕ) (at : ℕ) (space′ : List ℕ) (end i : ℕ) : Type 0 where
   pub written : Appends (escaped (take i path)) space at space′ end
   pub most : i ≤ length path
-  pub room : end + 3 * (length path - i) ≤ length space
+  pub room : end + escapedBytes * (length path - i) ≤ length space
   pub same : length space′ ≡ length space
 
-pub escaping-start : (path space : List ℕ) (at : ℕ) → at + 3 * length path ≤ length space → Escaping path space at space at 0
+pub escaping-start : (path space : List ℕ) (at : ℕ) → at + escapedBytes * length path ≤ length space → Escaping path space at space at 0
 unfolding escaped
 escaping-start path space at h = record { written = appends-none space at; most = omega arith; room = omega arith; same = refl }
 

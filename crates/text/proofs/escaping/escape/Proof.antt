@@ -2,9 +2,9 @@
 use Prim.Native.Nat.{_-_}
 use native.Mathlib.Omega.{arith}
 use lib.ListN.{length}
-use Rattle.holdlist.proofs.EscapeLaws.{Escaping, escaping-start, escaping-more, escaping-end}
-use Rattle.holdlist.proofs.printing.escape.Statement.{statement}
-use Rattle.holdlist.proofs.printing.escape.Tie as tie
+use Rattle.text.proofs.EscapeLaws.{Escaping, escaping-start, escaping-more, escaping-end}
+use Rattle.text.proofs.escaping.escape.Statement.{statement}
+use Rattle.text.proofs.escaping.escape.Tie as tie
 
 abbrev Inv-loop : tie.InvT-loop
 Inv-loop space₀ at path end₀ i₀ space end i = Escaping path space₀ at space end i

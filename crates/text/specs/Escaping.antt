@@ -1,8 +1,12 @@
--- A path as holdlist prints it: bytes outside 0x21 to 0x7E, and `%`, as `%` and two capital hexadecimal digits. Scope, "Handover, at the top".
+-- A path as it is shown: bytes outside 0x21 to 0x7E, and `%`, as `%` and two capital hexadecimal digits. Scope, "Handover, at the top".
 use Prim.Native.Nat.{ℕ, _+_, _/_, _%_}
 use mathlib.Core.List.{List, [], _∷_, _++_}
 use mathlib.Core.Bool.{Bool, _&&_, not, cond}
 use lib.Dec.{leb, ltb, eqb}
+
+-- the most bytes that a byte is shown as
+abbrev pub escapedBytes : ℕ
+escapedBytes = 3
 
 abbrev pub percent : ℕ
 percent = 37

@@ -9,9 +9,9 @@ use lib.ListN.{length, length-append}
 use lib.Dec.{ltb, leb}
 use borrow.Author.Tests.{lt-ltb, le-ltb, leb-true, leb-false}
 use Rattle.io.specs.Digits.{glyph, digits, Fewest}
-use Rattle.holdlist.specs.Lines.{decimalBy}
+use Rattle.text.specs.Text.{decimalDigits, decimalBy, decimal}
 
-pub decimal-long : (turns n : ℕ) → length (decimalBy turns n) ≤ turns
+decimal-long : (turns n : ℕ) → length (decimalBy turns n) ≤ turns
 unfolding decimalBy
 decimal-long zero n = omega arith
 decimal-long (suc turns) n = by (ltb n 10) (decimal-long turns (n / 10))
@@ -19,6 +19,9 @@ decimal-long (suc turns) n = by (ltb n 10) (decimal-long turns (n / 10))
     by : (b : Bool) → length (decimalBy turns (n / 10)) ≤ turns → length (cond b ((48 + n) ∷ []) (decimalBy turns (n / 10) ++ (48 + n % 10) ∷ [])) ≤ suc turns
     by true h = omega arith
     by false h = omega (arith, length-append (decimalBy turns (n / 10)) ((48 + n % 10) ∷ []))
+
+pub decimal-few : (n : ℕ) → length (decimal n) ≤ decimalDigits
+decimal-few n = decimal-long decimalDigits n
 
 -- the last digit, and those before it
 last-digit : (n : ℕ) → glyph (n % 10) ≡ 48 + n % 10
@@ -43,12 +46,12 @@ decimal-digits (suc (suc k)) (suc turns) n F h =
     let B = fewest-before n k F in
     rw (last-digit n, le-ltb n 10 (B .0), decimal-digits (suc k) turns (n / 10) (B .1) (omega arith))
 
--- twenty digits are enough for 64 bits
-pub fewest-few : (n k : ℕ) → n < 2 ^ 64 → Fewest 10 1 n k → k ≤ 20
-fewest-few n k h F = go (leb k 20) refl
+-- so many digits are enough for 64 bits
+pub fewest-few : (n k : ℕ) → n < 2 ^ 64 → Fewest 10 1 n k → k ≤ decimalDigits
+fewest-few n k h F = go (leb k decimalDigits) refl
   where
-    go : (b : Bool) → leb k 20 ≡ b → k ≤ 20
-    go true e = leb-true k 20 e
+    go : (b : Bool) → leb k decimalDigits ≡ b → k ≤ decimalDigits
+    go true e = leb-true k decimalDigits e
     go false e =
-        let l = leb-false k 20 e in
-        absurd (omega (arith, F .2 (omega arith), pow-le-pow-right {n = 10} (omega arith) {i = 20} {j = k - 1} (omega arith)))
+        let l = leb-false k decimalDigits e in
+        absurd (omega (arith, F .2 (omega arith), pow-le-pow-right {n = 10} (omega arith) {i = decimalDigits} {j = k - 1} (omega arith)))

@@ -1,0 +1,4 @@
+pub mod EscapeLaws
+pub mod DecimalLaws
+pub mod PieceLaws
+mod Examples

@@ -19,9 +19,10 @@ use Rattle.table.specs.Memory.{tableBytes, kindIn, entriesAt, tableOf, areWithi
 use Rattle.records.specs.Records.{actNumber, pathWords, pathPart, actPart, changeWords, isRunWord, isLength, isSwitches, isPathWord, withBytes, bytesFrom, ifResolved, readPath, withPath, readSwitches, readAct, withNumber, readHead, readFirst, endedBy, ended, readChange}
 use Rattle.standby.specs.Arriving.{conflict, standbyIn, wellFormed, higher, met, applied, inRun, moved, taken, arrival}
 use Rattle.standby.specs.Owing.{owedOf}
+use Rattle.input.specs.Words.{wordsOf}
 use Rattle.text.specs.Text.{text, newline, decimalBy}
 use Rattle.text.specs.Escaping.{isPlain, escapedByte, escaped}
-use Rattle.holdlist.specs.Holding.{wordsOf, stop, afterArrival, afterRecord, afterNext, heldFrom, unnumbered, held}
+use Rattle.holdlist.specs.Holding.{stop, afterArrival, afterRecord, afterNext, heldFrom, unnumbered, held}
 use Rattle.holdlist.specs.Lines.{header, entryLine, entryLines, stoppedLine, listing}
 
 -- what is printed of some input

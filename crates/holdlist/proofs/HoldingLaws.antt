@@ -9,8 +9,8 @@ use lib.ListN.{length, take, length-append, length-take, length-drop}
 use lib.Seq.{take-append-seam, take-take, take-at, length-take-le}
 use lib.Dec.{leb}
 use borrow.Author.Tests.{le-leb, lt-leb, leb-false}
-use Rattle.paths.specs.Copying.{begun, Appends}
-use Rattle.table.proofs.Overwrites.{from-start, starts-inside}
+use Rattle.paths.specs.Copying.{Appends}
+use Rattle.table.proofs.Overwrites.{starts-inside}
 use Rattle.table.specs.declared.Action.{Action}
 use Rattle.records.specs.declared.Record.{Record}
 use Rattle.records.specs.declared.Record.the-variants as answer
@@ -28,9 +28,11 @@ use Rattle.standby.specs.declared.Numbers.{Numbers}
 use Rattle.standby.specs.declared.Arrival.{Arrival}
 use Rattle.standby.specs.Arriving.{met, Left, applies, applied, arrival, leftBy, Comes, Arrives}
 use Rattle.standby.proofs.ArrivingLaws.{Taking, lower, waits, comes, repeats, early, next, taking, arrival-by}
+use Rattle.input.specs.Words.{wordsOf}
+use Rattle.input.proofs.WordLaws.{words-after, taken-words}
 use Rattle.holdlist.specs.declared.Held.{Held}
-use Rattle.holdlist.specs.Holding.{Standing, wordsOf, stop, afterArrival, afterRecord, behind, afterNext, heldFrom, beginning, counted, heldOn, isRefused, heldArrived, standing, Holds}
-use Rattle.holdlist.proofs.WordLaws.{words-behind, first-decides}
+use Rattle.holdlist.specs.Holding.{Standing, stop, afterArrival, afterRecord, behind, afterNext, heldFrom, beginning, counted, heldOn, isRefused, heldArrived, standing, Holds}
+use Rattle.holdlist.proofs.FirstLaws.{first-decides}
 
 -- ---- a record that arrives
 
@@ -67,12 +69,6 @@ holds-arrived {m} words held A f = holds-told (length words) held (tells-arrival
 
 -- ---- the record that bytes begin with
 
--- the words that were taken
-module _ (ws : List ℕ) {space words : List ℕ} {count : ℕ} (W : Appends ws space 0 words count) where
-  taken-words : take count words ≡ ws
-  unfolding begun
-  taken-words = rw (from-start W .1, from-start W .0) (take-append-seam ws _)
-
 -- what taking the first `end` of the words comes to
 pub record NextRecord (s : Standing) (bytes words : List ℕ) (count end : ℕ) : Type 0 where
   pub inside : end ≤ count
@@ -89,11 +85,6 @@ module _ (s : Standing) (bytes : List ℕ) {space words : List ℕ} {count : ℕ
 
   pub words-inside : count ≤ length words
   words-inside = starts-inside W
-
-  pub words-left : 4 * s .words ≤ length bytes → s .words + count ≤ length bytes
-  words-left h =
-      let ws = wordsOf (behind s bytes) in
-      omega (arith, from-start W .1, length-take recordSpace ws, words-behind bytes (4 * s .words))
 
   module _ {room after : List ℕ} {r : Record} (R : ReadsRecord 0 (readFirst (take count words)) room r after) where
     next-malformed : r ≡ answer.Malformed → afterNext s bytes ≡ stop s
@@ -154,7 +145,7 @@ advances-record ws s (some r) e =
 pub advances-next : (s : Standing) (bytes : List ℕ) → Advances s (afterNext s bytes) ((length bytes - 4 * s .words) / 4)
 unfolding afterNext
 advances-next s bytes =
-    rw (sym (words-behind bytes (4 * s .words))) (advances-record (wordsOf (behind s bytes)) s (readFirst (wordsOf (behind s bytes))) refl)
+    rw (sym (words-after bytes (4 * s .words))) (advances-record (wordsOf (behind s bytes)) s (readFirst (wordsOf (behind s bytes))) refl)
 
 -- nothing more is taken
 unfoldable pub rests : ℕ → Standing → List ℕ → Bool

@@ -18,10 +18,11 @@ use Rattle.records.specs.Records.{Change, Read, changeWords, readFirst}
 use Rattle.standby.specs.Arriving.{Left, leftBy}
 use Rattle.standby.proofs.ArrivingLaws.{Agrees}
 use Rattle.standby.proofs.KeepLaws.{Kept, arrival-kept}
+use Rattle.input.specs.Words.{wordsOf}
 use Rattle.holdlist.specs.declared.Held.{Held}
 use Rattle.holdlist.specs.declared.Input.{Input}
 use Rattle.holdlist.specs.declared.Input.the-variants as answer
-use Rattle.holdlist.specs.Holding.{Standing, wordsOf, stop, afterArrival, afterRecord, behind, afterNext, heldFrom, unnumbered, beginning, standing}
+use Rattle.holdlist.specs.Holding.{Standing, stop, afterArrival, afterRecord, behind, afterNext, heldFrom, unnumbered, beginning, standing}
 use Rattle.holdlist.specs.Input.{HoldsInput, unreadable, all}
 use Rattle.holdlist.proofs.HoldingLaws.{holds-is, rests, held-still, held-step}
 

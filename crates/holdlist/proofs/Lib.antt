@@ -1,4 +1,4 @@
-pub mod WordLaws
+pub mod FirstLaws
 pub mod HoldingLaws
 pub mod PartLaws
 pub mod LineLaws

@@ -13,9 +13,10 @@ use Rattle.table.specs.Calls.{recordSpace}
 use Rattle.records.specs.Records.{Change, Read, changeWords, readFirst}
 use Rattle.standby.specs.declared.Numbers.{Numbers}
 use Rattle.standby.specs.Arriving.{Left, arrival}
+use Rattle.input.specs.Words.{wordsOf}
+use Rattle.input.proofs.WordLaws.{words-front}
 use Rattle.holdlist.specs.Holding.{
   Standing,
-  wordsOf,
   stop,
   afterArrival,
   afterRecord,
@@ -27,7 +28,7 @@ use Rattle.holdlist.specs.Holding.{
   counted,
   heldOn,
 }
-use Rattle.holdlist.proofs.WordLaws.{words-front, first-decides}
+use Rattle.holdlist.proofs.FirstLaws.{first-decides}
 use Rattle.holdlist.proofs.HoldingLaws.{
   advances-next,
   rests,

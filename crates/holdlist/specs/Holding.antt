@@ -1,32 +1,20 @@
 -- What a standby holds after input of records, and where reading stopped. Scope, "Handover, at the top" (`holdlist`).
-use Prim.Native.Nat.{ℕ, zero, suc, _+_, _*_}
+use Prim.Native.Nat.{ℕ, zero, suc, _+_, _*_, _-_}
 use mathlib.Core.Path.{_≡_}
-use mathlib.Core.List.{List, [], _∷_}
+use mathlib.Core.List.{List}
 use mathlib.Core.Option.{Option, none, some}
 use mathlib.Core.Bool.{Bool, true, false, _||_, cond}
 use lib.ListN.{length, drop}
 use lib.Dec.{leb}
 use Rattle.refusals.specs.Refusals.{Result, refused, ok}
+use Rattle.table.specs.Calls.{recordSpace}
 use Rattle.records.specs.Records.{Change, Read, changeWords, readFirst}
 use Rattle.standby.specs.declared.Numbers.{Numbers}
 use Rattle.standby.specs.declared.Arrival.{Arrival}
 use Rattle.standby.specs.declared.Arrival.the-variants.{Applied, Repeat, Early, Taken, Refused}
 use Rattle.standby.specs.Arriving.{Left, arrival}
+use Rattle.input.specs.Words.{wordsOf}
 use Rattle.holdlist.specs.declared.Held.{Held}
-
--- ---- words
-
--- four bytes are a word, most significant first
-abbrev pub inputWord : ℕ → ℕ → ℕ → ℕ → ℕ
-inputWord a b c d = ((a * 256 + b) * 256 + c) * 256 + d
-
--- fewer at the end are a broken word, which is none
-unfoldable pub wordsOf : List ℕ → List ℕ
-wordsOf [] = []
-wordsOf (a ∷ []) = []
-wordsOf (a ∷ b ∷ []) = []
-wordsOf (a ∷ b ∷ c ∷ []) = []
-wordsOf (a ∷ b ∷ c ∷ d ∷ bytes) = inputWord a b c d ∷ wordsOf bytes
 
 -- ---- record after record
 
@@ -78,9 +66,9 @@ held m s input = heldFrom 0 (length input) (beginning m s) input
 
 -- ---- part by part
 
--- a record has at most 345 words; where no more bytes than these are left of a part, the record there may go on in the next one
+-- one byte less than the longest record has; where no more bytes than these are left of a part, the record there may go on in the next one
 abbrev pub keptBytes : ℕ
-keptBytes = 1379
+keptBytes = 4 * recordSpace - 1
 
 -- behind w words of the input
 unfoldable pub counted : ℕ → Standing → Standing

@@ -1,58 +1,40 @@
 // `holdlist` reads records from standard input into a fresh standby, and prints what it holds. Scope, "Handover, at the top". The
 // definitions are in specs/.
+use input::Came;
+use input::READS;
+use input::parts::keep_rest;
+use input::parts::read_after;
 use libc::STDERR_FILENO;
-use libc::STDIN_FILENO;
 use libc::STDOUT_FILENO;
 use printing::LISTING_BYTES;
 use printing::write_listing;
 use reading::hold_on;
+use records::RECORD_WORDS;
 use standby::Numbers;
 use table::TABLE_BYTES;
 use table::acting::make_fresh;
-use table::writing::move_down;
 ghost use mathlib.Core.Path.{_≡_};
-ghost use Prim.Native.Nat.{_≤_};
 ghost use lib.ListN.{length};
-ghost use Rattle.holdlist.specs.Input.{bufferBytes, ReadsBehind, HoldsInput};
+ghost use Rattle.input.specs.Parts.{bufferBytes};
+ghost use Rattle.holdlist.specs.Input.{HoldsInput};
 
 mod printing;
 mod reading;
 
-// A record has at most 345 words. Where no more bytes than these are left, the record there may go on in the next part of the input.
-const KEPT_BYTES: usize = 1379;
+// One byte less than the longest record has: where no more bytes than these are left, the record there may go on in the next part of the input.
+const KEPT_BYTES: usize = 4 * RECORD_WORDS - 1;
 
-// A proved loop has to end, and nothing says that the input does: so many reads, more than any run makes.
-const READS: u64 = 0x1_0000_0000_0000;
-
-// What was held of the input so far: the standby's numbers, the words taken, and whether reading stopped behind them.
+// What was held of the input so far: the standby's numbers, the words taken, and whether reading stopped after them.
 pub struct Held {
     pub numbers: Numbers,
     pub words: usize,
     pub stopped: bool,
 }
 
-// What one read answers: how many bytes came, 0 at the input's end.
-enum Came {
-    Bytes(usize),
-    Failed,
-}
-
 // What reading all of the input answers.
 enum Input {
     Held(Held),
     Unreadable,
-}
-
-// Reads once, behind the first `left` bytes of the buffer.
-fn read_behind(buffer: &mut [u8], left: usize) -> Came
-    requires { ⌜ left ≤ length (now buffer) ⌝ }
-    ensures { λ r. ⌜ ReadsBehind (now (buffer .entry)) left (now (buffer .exit)) r ⌝ }
-{
-    let got = libc::read(STDIN_FILENO, &mut buffer[left..]);
-    if got < 0 {
-        return Came::Failed;
-    }
-    Came::Bytes(io::count(got, &buffer[left..]))
 }
 
 // Holds all of standard input, part by part.
@@ -73,7 +55,7 @@ fn hold_input(mem: &mut [u8], buffer: &mut [u8]) -> Input
     let mut left: usize = 0;
     let mut turns = READS;
     while turns > 0 && !held.stopped {
-        let Came::Bytes(more) = read_behind(buffer, left) else {
+        let Came::Bytes(more) = read_after(buffer, left) else {
             return Input::Unreadable;
         };
         if more == 0 {
@@ -81,9 +63,7 @@ fn hold_input(mem: &mut [u8], buffer: &mut [u8]) -> Input
         }
         let len = left + more;
         let next = hold_on(mem, held, &buffer[..len], KEPT_BYTES);
-        let taken = 4 * (next.words - held.words);
-        left = len - taken;
-        move_down(buffer, taken, 0, left);
+        left = keep_rest(buffer, len, 4 * (next.words - held.words));
         held = next;
         turns -= 1;
     }

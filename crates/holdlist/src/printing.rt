@@ -16,7 +16,7 @@ use text::escaping::escape;
 use text::kind_letter;
 ghost use mathlib.Core.Path.{_≡_};
 ghost use mathlib.Core.Bool.{true, false};
-ghost use Prim.Native.Nat.{_+_, _*_, _<_, _≤_};
+ghost use Prim.Native.Nat.{_+_, _*_, _≤_};
 ghost use lib.ListN.{length};
 ghost use Rattle.paths.specs.Copying.{Appends};
 ghost use Rattle.table.specs.Tables.{pathBytes};

@@ -1,5 +1,6 @@
 // Reading records into a standby: word after word, record after record.
 use crate::Held;
+use input::words::take_words;
 use paths::MAX_PATH;
 use records::RECORD_WORDS;
 use records::Record;
@@ -7,46 +8,12 @@ use records::reading::read_record;
 use standby::Arrival;
 use standby::Numbers;
 use standby::arriving::arrive;
-use table::reading::word_at;
 ghost use mathlib.Core.Path.{_≡_};
 ghost use mathlib.Core.Bool.{true};
-ghost use Prim.Native.Nat.{_+_, _*_, _<_, _≤_, _^_, min};
-ghost use lib.ListN.{length, getD, take, drop};
-ghost use Rattle.paths.specs.Copying.{Appends};
+ghost use Prim.Native.Nat.{_+_, _*_, _<_, _≤_, _^_};
+ghost use lib.ListN.{length};
 ghost use Rattle.standby.specs.Arriving.{arrival};
-ghost use Rattle.holdlist.specs.Holding.{inputWord, wordsOf, heldArrived, isRefused, afterArrival, afterNext, heldFrom, beginning, heldOn, standing, Holds};
-
-// The word in four bytes, most significant first.
-fn word_from(bytes: &[u8], at: usize) -> u32
-    requires { ⌜ at + 3 < length (now bytes) ⌝ }
-    ensures { λ r. ⌜ r ≡ inputWord (getD (now (bytes .entry)) at 0) (getD (now (bytes .entry)) (at + 1) 0) (getD (now (bytes .entry)) (at + 2) 0) (getD (now (bytes .entry)) (at + 3) 0) ⌝ }
-{
-    (word_at(bytes, at) * 65536 + word_at(bytes, at + 2)) as u32
-}
-
-// The lesser of two numbers.
-fn least(a: usize, b: usize) -> usize
-    ensures { λ r. ⌜ r ≡ min a b ⌝ }
-{
-    if a < b {
-        return a;
-    }
-    b
-}
-
-// Takes the whole words that the bytes from an offset on begin with, as many as there is room for, and says how many.
-fn take_words(bytes: &[u8], from: usize, words: &mut [u32]) -> usize
-    requires { ⌜ from ≤ length (now bytes) ⌝ }
-    ensures { λ r. ⌜ Appends (take (length (now (words .entry))) (wordsOf (drop from (now (bytes .entry))))) (now (words .entry)) 0 (now (words .exit)) r ⌝ }
-{
-    let count = least(words.len(), (bytes.len() - from) / 4);
-    let mut k: usize = 0;
-    while k < count {
-        words[k] = word_from(bytes, from + 4 * k);
-        k += 1;
-    }
-    count
-}
+ghost use Rattle.holdlist.specs.Holding.{heldArrived, isRefused, afterArrival, afterNext, heldFrom, beginning, heldOn, standing, Holds};
 
 // Reading stops where it is.
 fn stop(held: Held) -> Held

@@ -1,6 +1,6 @@
 -- `hold_input` meets its contract. The loop's invariant: the buffer's first bytes are what is left of the input so far.
 use Prim.Native.Nat.{_+_, _*_, _-_, _≤_}
-use mathlib.Core.Path.{_≡_, refl, sym, ap, _∙_}
+use mathlib.Core.Path.{sym, ap, _∙_}
 use mathlib.Core.Logic.{⊎-elim}
 use native.Mathlib.Omega.{arith}
 use lib.ListN.{length, take}
@@ -9,7 +9,8 @@ use denote.Ref.{now}
 use borrow.Author.Tests.{not-true}
 use Rattle.holdlist.specs.Input.{unreadable}
 use borrow.Author.Needs.{needs}
-use Rattle.holdlist.proofs.InputLaws.{Part, part-start, part-kept, part-end, came-inside, taken-inside, part-next}
+use Rattle.input.proofs.PartLaws.{came-inside}
+use Rattle.holdlist.proofs.InputLaws.{Part, part-start, part-kept, part-end, taken-inside, part-next}
 use Rattle.holdlist.proofs.hold_input.Statement.{statement}
 use Rattle.holdlist.proofs.hold_input.Tie as tie
 
@@ -32,8 +33,8 @@ ended c =
 loop-holds : tie.Need-loop-holds Inv-loop μ-loop
 loop-holds c = part-start _ _ _ (omega arith) (c .before .before .pre)
 
-read-behind-requires : tie.Need-read-behind-requires Inv-loop μ-loop
-read-behind-requires c κs = c .before .before .before .before .loop .inv .inside
+read-after-requires : tie.Need-read-after-requires Inv-loop μ-loop
+read-after-requires c κs = c .before .before .before .before .loop .inv .buffered .inside
 
 enum-known-more : tie.Need-enum-known-more Inv-loop μ-loop
 enum-known-more c = search needs
@@ -50,50 +51,50 @@ same-length-2 c = search needs
 returns : tie.Need-returns Inv-loop μ-loop
 returns c = unreadable
 
+-- the bytes that came are in the buffer
 add-len : tie.Need-add-len Inv-loop μ-loop
 add-len c =
     let read = c .before .before .before .before .before .before in
-    let l = read .before .before .before .before .before in
-    omega (arith, came-inside (l .loop .inv) (not-true _ (read .before .before .if1 .taken)) (read .read-behind .ensures) (c .before .before .before .before .before .buffer .given) (c .before .before .more .given .1), l .loop .inv .room)
+    let B = read .before .before .before .before .before .loop .inv .buffered in
+    omega (arith, came-inside B (read .read-after .ensures) (c .before .before .before .before .before .buffer .given) (c .before .before .more .given .1), B .room)
 
 slice-reshare-prefix-hold-on : tie.Need-slice-reshare-prefix-hold-on Inv-loop μ-loop
 slice-reshare-prefix-hold-on c =
     let read = c .before .before .before .before .before .before .before in
-    let l = read .before .before .before .before .before in
-    came-inside (l .loop .inv) (not-true _ (read .before .before .if1 .taken)) (read .read-behind .ensures) (c .before .before .before .before .before .before .buffer .given) (c .before .before .before .more .given .1)
+    came-inside (read .before .before .before .before .before .loop .inv .buffered) (read .read-after .ensures) (c .before .before .before .before .before .before .buffer .given)
+    (c .before .before .before .more .given .1)
 
 slice-aggregate-hold-on : tie.Need-slice-aggregate-hold-on Inv-loop μ-loop
 slice-aggregate-hold-on c = sym (length-take-le _ _ (slice-reshare-prefix-hold-on (c .before)))
 
 hold-on-requires : tie.Need-hold-on-requires Inv-loop μ-loop
 hold-on-requires c κs =
-    let l = c .before .before .before .before .before .before .before .before .before .before .before .before .before in
-    omega (arith, slice-aggregate-hold-on c, slice-reshare-prefix-hold-on (c .before), c .before .before .before .before .before .before .before .buffer .given, l .loop .inv .room, l .loop .inv .few)
+    let B = c .before .before .before .before .before .before .before .before .before .before .before .before .before .loop .inv .buffered in
+    omega (arith, slice-aggregate-hold-on c, slice-reshare-prefix-hold-on (c .before), c .before .before .before .before .before .before .before .buffer .given, B .room, B .few)
 
 -- the words that were taken are in the buffer
 grown : (c : tie.After-hold-on Inv-loop μ-loop)
     → let l = c .before .before .before .before .before .before .before .before .before .before .before .before .before .before in
-    let len = l .loop .left + c .before .before .before .before .before .more .given .0 .0 in
-    let taken = 4 * (c .hold-on .result .words - l .loop .held .words) in
-    (l .loop .held .words ≤ c .hold-on .result .words) × (taken + (len - taken) ≡ len)
+    (l .loop .held .words ≤ c .hold-on .result .words)
+    × (4 * (c .hold-on .result .words - l .loop .held .words) ≤ l .loop .left + c .before .before .before .before .before .more .given .0 .0)
 grown c =
     let more = c .before .before .before .before .before in
     let read = more .before .before .before .before in
-    let l = read .before .before .before .before .before in
-    taken-inside (l .loop .inv) (not-true _ (read .before .before .if1 .taken)) (read .read-behind .ensures) (more .before .before .before .buffer .given) (more .more .given .1)
-    (c .hold-on .ensures) _ _ refl refl
+    taken-inside (read .before .before .before .before .before .loop .inv) (not-true _ (read .before .before .if1 .taken)) (read .read-after .ensures)
+    (more .before .before .before .buffer .given) (more .more .given .1) (c .hold-on .ensures)
 
-sub-taken : tie.Need-sub-taken Inv-loop μ-loop
-sub-taken c = grown (c .before .before .before .before) .0
+sub-keep-rest : tie.Need-sub-keep-rest Inv-loop μ-loop
+sub-keep-rest c = grown (c .before .before .before .before .before) .0
 
-mul-taken : tie.Need-mul-taken Inv-loop μ-loop
-mul-taken c = let g = grown (c .before .before .before .before) in omega (arith, add-len (c .before .before .before .before .before .before .before))
+mul-keep-rest : tie.Need-mul-keep-rest Inv-loop μ-loop
+mul-keep-rest c =
+    let held = c .before .before .before .before .before in
+    omega (arith, grown held .1, add-len (held .before .before .before))
 
-sub-left : tie.Need-sub-left Inv-loop μ-loop
-sub-left c = let g = grown (c .before .before .before .before) in omega arith
-
-move-down-requires : tie.Need-move-down-requires Inv-loop μ-loop
-move-down-requires c κs = let g = grown (c .before .before .before .before .before) in (omega arith, omega (arith, slice-reshare-prefix-hold-on (c .before .before .before .before .before .before .before)))
+keep-rest-requires : tie.Need-keep-rest-requires Inv-loop μ-loop
+keep-rest-requires c κs =
+    let held = c .before .before .before .before .before in
+    (grown held .1, slice-reshare-prefix-hold-on (held .before .before))
 
 sub-turns : tie.Need-sub-turns Inv-loop μ-loop
 sub-turns c = omega arith
@@ -106,26 +107,26 @@ loop-again c =
     let held = c .before .before .before .before .before .before .before .before in
     let more = held .before .before .before .before .before in
     let read = more .before .before .before .before in
-    let l = read .before .before .before .before .before in
-    part-next (l .loop .inv) (not-true _ (read .before .before .if1 .taken)) (read .read-behind .ensures) (more .before .before .before .buffer .given) (more .more .given .1)
-    (held .hold-on .ensures) _ _ refl refl (c .before .before .before .before .before .before .before .mem .given) (c .before .before .move-down .ensures) (c .before .buffer2 .given) (omega arith)
+    part-next (read .before .before .before .before .before .loop .inv) (not-true _ (read .before .before .if1 .taken)) (read .read-after .ensures)
+    (more .before .before .before .buffer .given) (more .more .given .1) (held .hold-on .ensures)
+    (c .before .before .before .before .before .before .before .mem .given) (c .before .before .keep-rest .ensures) (c .before .buffer2 .given) (omega arith)
 
 slice-reshare-prefix-hold-on-2 : tie.Need-slice-reshare-prefix-hold-on-2 Inv-loop μ-loop
-slice-reshare-prefix-hold-on-2 c = ended (c .before) .inside
+slice-reshare-prefix-hold-on-2 c = ended (c .before) .buffered .inside
 
 slice-aggregate-hold-on-2 : tie.Need-slice-aggregate-hold-on-2 Inv-loop μ-loop
 slice-aggregate-hold-on-2 c = sym (length-take-le _ _ (slice-reshare-prefix-hold-on-2 (c .before)))
 
 hold-on-requires-2 : tie.Need-hold-on-requires-2 Inv-loop μ-loop
 hold-on-requires-2 c κs =
-    let e = ended (c .before .before) in
-    omega (arith, slice-aggregate-hold-on-2 c, e .inside, e .room, e .few)
+    let B = ended (c .before .before) .buffered in
+    omega (arith, slice-aggregate-hold-on-2 c, B .inside, B .room, B .few)
 
 same-length-3 : tie.Need-same-length-3 Inv-loop μ-loop
 same-length-3 c = c .before .mem2 .given ∙ c .before .before .before .before .before .before .loop .inv .same
 
 same-length-4 : tie.Need-same-length-4 Inv-loop μ-loop
-same-length-4 c = ended (c .before .before .before .before .before) .room ∙ sym (c .before .before .before .before .before .before .before .before .before .pre)
+same-length-4 c = ended (c .before .before .before .before .before) .buffered .room ∙ sym (c .before .before .before .before .before .before .before .before .before .pre)
 
 returns-2 : tie.Need-returns-2 Inv-loop μ-loop
 returns-2 c = part-end (ended (c .before .before .before .before .before)) (c .before .before .hold-on2 .ensures)
@@ -137,7 +138,7 @@ hold-input-spec =
     Inv-loop
     μ-loop
     loop-holds
-    read-behind-requires
+    read-after-requires
     enum-known-more
     enum-told
     same-length
@@ -147,10 +148,9 @@ hold-input-spec =
     slice-reshare-prefix-hold-on
     slice-aggregate-hold-on
     hold-on-requires
-    sub-taken
-    mul-taken
-    sub-left
-    move-down-requires
+    sub-keep-rest
+    mul-keep-rest
+    keep-rest-requires
     sub-turns
     loop-less
     loop-again

@@ -3,8 +3,11 @@ use mathlib.Core.Path.{sym}
 use native.Mathlib.Omega.{arith}
 use denote.Ref.{now}
 use lib.Seq.{length-take-le}
+use Prim.Native.Nat.{_*_}
+use Rattle.table.specs.Calls.{recordSpace}
+use Rattle.input.proofs.WordLaws.{words-left}
 use Rattle.holdlist.specs.Holding.{standing}
-use Rattle.holdlist.proofs.HoldingLaws.{words-inside, words-left, NextRecord, next-record, holds-malformed}
+use Rattle.holdlist.proofs.HoldingLaws.{words-inside, NextRecord, next-record, holds-malformed}
 use borrow.Author.Needs.{needs}
 use Rattle.holdlist.proofs.reading.hold_next.Statement.{statement}
 use Rattle.holdlist.proofs.reading.hold_next.Tie as tie
@@ -62,7 +65,7 @@ hold-record-requires c κs =
     let start = take .before .before .before .before .before in
     let a = start .args in
     let good = start .good in
-    let left = words-left (standing (now (a .mem)) (a .held)) (now (a .bytes)) (take .take-words .ensures) (start .pre) in
+    let left = words-left (now (a .bytes)) (4 * a .held .words) recordSpace (take .take-words .ensures) (start .pre) in
     omega (arith, slice-aggregate-hold-record c, next end .inside)
 
 returns : tie.Need-returns

@@ -6,10 +6,10 @@ use mathlib.Core.Path.{_≡_, refl, _∙_}
 use denote.Ref.{now}
 use lib.ListN.{length, drop, length-set}
 use lib.Seq.{paste, paste-zero}
-use Rattle.holdlist.specs.Holding.{wordsOf}
-use Rattle.holdlist.proofs.WordLaws.{words-behind, word-behind, word-more, takes-words}
-use Rattle.holdlist.proofs.reading.take_words.Statement.{statement}
-use Rattle.holdlist.proofs.reading.take_words.Tie as tie
+use Rattle.input.specs.Words.{wordsOf}
+use Rattle.input.proofs.WordLaws.{words-after, word-after, word-more, takes-words}
+use Rattle.input.proofs.words.take_words.Statement.{statement}
+use Rattle.input.proofs.words.take_words.Tie as tie
 
 abbrev Inv-loop : tie.InvT-loop
 Inv-loop bytes from words₀ count k₀ words k = (k ≤ count) × (words ≡ paste words₀ 0 (wordsOf (drop from bytes)) k) × (length words ≡ length words₀)
@@ -53,8 +53,8 @@ loop-again : tie.Need-loop-again Inv-loop μ-loop
 loop-again c =
     let l = c .before .before in
     let a = l .before .before .before .before .args in
-    let n = words-behind (now (a .bytes)) (a .from) in
-    let word = c .word-from .ensures ∙ word-behind (now (a .bytes)) (a .from) (l .loop .k) (omega arith) in
+    let n = words-after (now (a .bytes)) (a .from) in
+    let word = c .word-from .ensures ∙ word-after (now (a .bytes)) (a .from) (l .loop .k) (omega arith) in
     (omega arith, rw (l .loop .inv .1) (word-more _ _ (l .loop .k) _ (omega arith) (omega arith) word), simp length-set (l .loop .inv .2))
 
 same-length : tie.Need-same-length Inv-loop μ-loop
@@ -64,7 +64,7 @@ returns : tie.Need-returns Inv-loop μ-loop
 returns c =
     let l = c .before in
     let a = l .before .before .before .before .args in
-    let n = words-behind (now (a .bytes)) (a .from) in
+    let n = words-after (now (a .bytes)) (a .from) in
     let whole : l .loop .k ≡ l .before .least .result = omega arith in
     takes-words (wordsOf (drop (a .from) (now (a .bytes)))) (now (a .words)) _ (omega arith) (rw whole at (l .loop .inv .1))
 

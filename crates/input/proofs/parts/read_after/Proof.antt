@@ -1,12 +1,12 @@
--- `read_behind` meets its contract.
+-- `read_after` meets its contract.
 use native.Mathlib.Omega.{arith}
 use Prim.Native.Nat.{_-_}
 use lib.ListN.{length}
 use denote.Ref.{now}
 use borrow.Rule.Slice.PartMut.{take-put}
 use borrow.Author.Needs.{needs}
-use Rattle.holdlist.proofs.read_behind.Statement.{statement}
-use Rattle.holdlist.proofs.read_behind.Tie as tie
+use Rattle.input.proofs.parts.read_after.Statement.{statement}
+use Rattle.input.proofs.parts.read_after.Tie as tie
 
 sub-read : tie.Need-sub-read
 sub-read c = search needs
@@ -57,8 +57,8 @@ returns-2 c =
       inside = omega (arith, c .count .ensures .0 .0);
     }
 
-pub read-behind-spec : {M : Type 1} → statement M
-read-behind-spec =
+pub read-after-spec : {M : Type 1} → statement M
+read-after-spec =
     tie.close
     (tie.spec
     sub-read

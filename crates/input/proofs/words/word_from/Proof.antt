@@ -5,8 +5,8 @@ use native.Mathlib.Omega.{arith}
 use lib.ListN.{getD}
 use denote.Ref.{now}
 use borrow.Author.Needs.{needs}
-use Rattle.holdlist.proofs.reading.word_from.Statement.{statement}
-use Rattle.holdlist.proofs.reading.word_from.Tie as tie
+use Rattle.input.proofs.words.word_from.Statement.{statement}
+use Rattle.input.proofs.words.word_from.Tie as tie
 
 word-at-requires : tie.Need-word-at-requires
 word-at-requires c κs = search needs

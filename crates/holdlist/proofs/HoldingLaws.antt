@@ -5,8 +5,8 @@ use mathlib.Core.List.{List}
 use mathlib.Core.Option.{Option, none, some}
 use mathlib.Core.Bool.{Bool, true, false, _||_, cond, or-true, false≢true}
 use native.Mathlib.Omega.{arith}
-use lib.ListN.{length, take, length-append, length-take, length-drop}
-use lib.Seq.{take-append-seam, take-take, take-at, length-take-le}
+use lib.ListN.{length, take, length-append, length-drop}
+use lib.Seq.{take-take, take-at, length-take-le}
 use lib.Dec.{leb}
 use borrow.Author.Tests.{le-leb, lt-leb, leb-false}
 use Rattle.paths.specs.Copying.{Appends}
@@ -16,13 +16,14 @@ use Rattle.records.specs.declared.Record.{Record}
 use Rattle.records.specs.declared.Record.the-variants as answer
 use Rattle.records.specs.Answers.{recordAnswer, ReadsRecord}
 use Rattle.records.proofs.WrittenLaws.{written-first}
+use Rattle.records.proofs.FirstLaws.{same-first}
 use Rattle.refusals.specs.declared.Refusal.{Refusal}
 use Rattle.refusals.specs.Refusals.{Result, refused, ok, andThen}
 use Rattle.table.specs.declared.Numbering.the-variants.{Plain}
 use Rattle.table.specs.Tables.{Table}
 use Rattle.table.specs.Acts.{Act}
 use Rattle.table.specs.Memory.{tableOf}
-use Rattle.table.specs.Calls.{recordSpace, carried}
+use Rattle.table.specs.Calls.{carried}
 use Rattle.records.specs.Records.{Change, Read, changeWords, readFirst}
 use Rattle.standby.specs.declared.Numbers.{Numbers}
 use Rattle.standby.specs.declared.Arrival.{Arrival}
@@ -31,8 +32,7 @@ use Rattle.standby.proofs.ArrivingLaws.{Taking, lower, waits, comes, repeats, e
 use Rattle.input.specs.Words.{wordsOf}
 use Rattle.input.proofs.WordLaws.{words-after, taken-words}
 use Rattle.holdlist.specs.declared.Held.{Held}
-use Rattle.holdlist.specs.Holding.{Standing, stop, afterArrival, afterRecord, behind, afterNext, heldFrom, beginning, counted, heldOn, isRefused, heldArrived, standing, Holds}
-use Rattle.holdlist.proofs.FirstLaws.{first-decides}
+use Rattle.holdlist.specs.Holding.{recordSpace, Standing, stop, afterArrival, afterRecord, untaken, afterNext, heldFrom, beginning, counted, heldOn, isRefused, heldArrived, standing, Holds}
 
 -- ---- a record that arrives
 
@@ -69,18 +69,31 @@ holds-arrived {m} words held A f = holds-told (length words) held (tells-arrival
 
 -- ---- the record that bytes begin with
 
+-- as many words as the longest record has decide
+pub first-decides : (ws ws′ : List ℕ) (s : Standing) → take recordSpace ws ≡ take recordSpace ws′ → afterRecord (readFirst ws) s ≡ afterRecord (readFirst ws′) s
+unfolding afterRecord
+first-decides ws ws′ s same = go (readFirst ws) refl (readFirst ws′) refl
+  where
+    go : (o : Option (Read Change)) → readFirst ws ≡ o → (o′ : Option (Read Change)) → readFirst ws′ ≡ o′ → afterRecord o s ≡ afterRecord o′ s
+    go none e none e′ = refl
+    go none e (some r) e′ =
+        let f = same-first ws′ ws (sym same) r e′ in
+        let z : _≡_ {A = ℕ} 0 1 = cc in
+        absurd (omega arith)
+    go (some r) e o e′ = rw (sym e′ ∙ same-first ws ws′ same r e)
+
 -- what taking the first `end` of the words comes to
 pub record NextRecord (s : Standing) (bytes words : List ℕ) (count end : ℕ) : Type 0 where
   pub inside : end ≤ count
   pub few : end ≤ length words
   pub after : afterNext s bytes ≡ afterArrival (arrival (s .memory) (take end words) (s .numbers)) (length (take end words)) s
 
-module _ (s : Standing) (bytes : List ℕ) {space words : List ℕ} {count : ℕ} (W : Appends (take recordSpace (wordsOf (behind s bytes))) space 0 words count) where
+module _ (s : Standing) (bytes : List ℕ) {space words : List ℕ} {count : ℕ} (W : Appends (take recordSpace (wordsOf (untaken s bytes))) space 0 words count) where
   -- they say what the record is
   next-by : afterNext s bytes ≡ afterRecord (readFirst (take count words)) s
   unfolding afterNext
   next-by =
-      let ws = wordsOf (behind s bytes) in
+      let ws = wordsOf (untaken s bytes) in
       first-decides ws (take count words) s (rw (taken-words (take recordSpace ws) W) (sym (take-take recordSpace recordSpace ws (omega arith))))
 
   pub words-inside : count ≤ length words
@@ -112,7 +125,7 @@ module _ (s : Standing) (bytes : List ℕ) {space words : List ℕ} {count : ℕ
 
 -- reading stops where it is
 pub holds-malformed : (held : Held) (bytes : List ℕ) {m space words : List ℕ} {count : ℕ} {room after : List ℕ} {r : Record} {q : Held}
-    → Appends (take recordSpace (wordsOf (behind (standing m held) bytes))) space 0 words count → ReadsRecord 0 (readFirst (take count words)) room r after
+    → Appends (take recordSpace (wordsOf (untaken (standing m held) bytes))) space 0 words count → ReadsRecord 0 (readFirst (take count words)) room r after
     → r ≡ answer.Malformed → q ≡ record { numbers = held .numbers; words = held .words; stopped = true }
     → Holds (afterNext (standing m held) bytes) m q
 unfolding stop
@@ -145,16 +158,16 @@ advances-record ws s (some r) e =
 pub advances-next : (s : Standing) (bytes : List ℕ) → Advances s (afterNext s bytes) ((length bytes - 4 * s .words) / 4)
 unfolding afterNext
 advances-next s bytes =
-    rw (sym (words-after bytes (4 * s .words))) (advances-record (wordsOf (behind s bytes)) s (readFirst (wordsOf (behind s bytes))) refl)
+    rw (sym (words-after bytes (4 * s .words))) (advances-record (wordsOf (untaken s bytes)) s (readFirst (wordsOf (untaken s bytes))) refl)
 
 -- nothing more is taken
 unfoldable pub rests : ℕ → Standing → List ℕ → Bool
-rests keep s bytes = s .stopped || leb (length (behind s bytes)) keep
+rests keep s bytes = s .stopped || leb (length (untaken s bytes)) keep
 
 module _ (keep : ℕ) (s : Standing) (bytes : List ℕ) where
   pub rests-stopped : s .stopped ≡ true → rests keep s bytes ≡ true
   unfolding rests
-  rests-stopped e = ap (λ (b : Bool). b || leb (length (behind s bytes)) keep) e
+  rests-stopped e = ap (λ (b : Bool). b || leb (length (untaken s bytes)) keep) e
 
   pub rests-kept : length bytes - 4 * s .words ≤ keep → rests keep s bytes ≡ true
   unfolding rests
@@ -163,13 +176,13 @@ module _ (keep : ℕ) (s : Standing) (bytes : List ℕ) where
   pub goes-on : s .stopped ≡ false → keep < length bytes - 4 * s .words → rests keep s bytes ≡ false
   unfolding rests
   goes-on e h =
-      ap (λ (b : Bool). b || leb (length (behind s bytes)) keep) e
+      ap (λ (b : Bool). b || leb (length (untaken s bytes)) keep) e
       ∙ rw (length-drop (4 * s .words) bytes) (lt-leb _ _ h)
 
   pub going-on : rests keep s bytes ≡ false → (s .stopped ≡ false) × (keep < length bytes - 4 * s .words)
   unfolding rests
   going-on e =
-      let t = or-false (s .stopped) (leb (length (behind s bytes)) keep) e in
+      let t = or-false (s .stopped) (leb (length (untaken s bytes)) keep) e in
       (t .0, rw (sym (length-drop (4 * s .words) bytes)) (leb-false _ _ (t .1)))
     where
       or-false : (b d : Bool) → b || d ≡ false → (b ≡ false) × (d ≡ false)

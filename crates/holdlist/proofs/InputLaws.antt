@@ -12,7 +12,7 @@ use Rattle.input.specs.Parts.{bufferBytes, ReadsAfter, KeepsRest}
 use Rattle.input.proofs.PartLaws.{Buffered, buffered-start, buffered-kept, newBytes, came-inside, joined, buffered-next}
 use Rattle.holdlist.specs.declared.Held.{Held}
 use Rattle.holdlist.specs.declared.Input.the-variants as answer
-use Rattle.holdlist.specs.Holding.{Standing, behind, heldFrom, unnumbered, keptBytes, beginning, held, counted, heldOn, standing, Holds}
+use Rattle.holdlist.specs.Holding.{Standing, untaken, heldFrom, unnumbered, keptBytes, beginning, held, counted, heldOn, standing, Holds}
 use Rattle.holdlist.specs.Input.{HoldsInput, all}
 use Rattle.holdlist.proofs.HoldingLaws.{holds-as, holds-is, held-inside, on-by}
 use Rattle.holdlist.proofs.PartLaws.{in-parts}
@@ -41,7 +41,7 @@ part-start m buffer turns h l = record { input = []; so-far = refl; buffered = b
 module _ {first m buffer : List ℕ} {r : Held} {left turns : ℕ} (P : Part first m buffer r left turns) where
   -- the input so far with more after it
   with-part : (least : ℕ) → least ≤ keptBytes → (b : List ℕ)
-      → heldFrom least (length (P .input ++ b)) (beginning first unnumbered) (P .input ++ b) ≡ heldOn least (standing m r) (behind (standing m r) (P .input) ++ b)
+      → heldFrom least (length (P .input ++ b)) (beginning first unnumbered) (P .input ++ b) ≡ heldOn least (standing m r) (untaken (standing m r) (P .input) ++ b)
   with-part least h b = rw (P .so-far) at (in-parts keptBytes least (omega arith) h first unnumbered (P .input) b)
 
   -- a buffer with the same first bytes serves as well
@@ -64,16 +64,17 @@ module _ {first m buffer : List ℕ} {r : Held} {left turns : ℕ} (P : Part fir
         let w = on-words keptBytes (take (left + more) after) m r e H in
         (w .0, omega (arith, w .1, length-take-le (left + more) after (came-inside (P .buffered) R same f)))
 
-    pub part-next : {buffer′ : List ℕ} {left′ : ℕ} → length m′ ≡ length m → KeepsRest after (left + more) (4 * (q .words - r .words)) buffer′ left′
-        → length buffer′ ≡ length after → 0 < turns → Part first m′ buffer′ q left′ (turns - 1)
-    part-next l K k t =
+    pub part-next : {buffer′ : List ℕ} {taken left′ : ℕ} → length m′ ≡ length m → KeepsRest after (left + more) taken buffer′ left′ → length buffer′ ≡ length after
+        → taken ≡ 4 * (q .words - r .words) → 0 < turns → Part first m′ buffer′ q left′ (turns - 1)
+    part-next {taken = taken} l K k g t =
         let B = P .buffered in
         let w = taken-inside in
         record {
           input = P .input ++ newBytes after left more;
           so-far =
               with-part keptBytes (omega arith) (newBytes after left more)
-              ∙ ap (heldOn keptBytes (standing m r)) (sym (joined B R same f)) ∙ sym (holds-is H);
-          buffered = buffered-next B R same f (4 * (q .words - r .words)) (4 * q .words) (omega arith) (w .1) K k t;
+              ∙ ap (heldOn keptBytes (standing m r)) (sym (joined B R same f))
+              ∙ sym (holds-is H);
+          buffered = buffered-next B R same f taken (4 * q .words) (omega arith) (omega arith) K k t;
           same = l ∙ P .same;
         }

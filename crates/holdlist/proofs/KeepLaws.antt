@@ -22,7 +22,7 @@ use Rattle.input.specs.Words.{wordsOf}
 use Rattle.holdlist.specs.declared.Held.{Held}
 use Rattle.holdlist.specs.declared.Input.{Input}
 use Rattle.holdlist.specs.declared.Input.the-variants as answer
-use Rattle.holdlist.specs.Holding.{Standing, stop, afterArrival, afterRecord, behind, afterNext, heldFrom, unnumbered, beginning, standing}
+use Rattle.holdlist.specs.Holding.{Standing, stop, afterArrival, afterRecord, untaken, afterNext, heldFrom, unnumbered, beginning, standing}
 use Rattle.holdlist.specs.Input.{HoldsInput, unreadable, all}
 use Rattle.holdlist.proofs.HoldingLaws.{holds-is, rests, held-still, held-step}
 
@@ -46,7 +46,7 @@ after-record (some r) s S = after-arrival _ _ s S (arrival-kept (s .memory) (s .
 
 after-next : (s : Standing) (input : List ℕ) → Sound s → Sound (afterNext s input)
 unfolding afterNext
-after-next s input S = after-record (readFirst (wordsOf (behind s input))) s S
+after-next s input S = after-record (readFirst (wordsOf (untaken s input))) s S
 
 after-held : (keep turns : ℕ) (s : Standing) (input : List ℕ) → Sound s → Sound (heldFrom keep turns s input)
 unfolding heldFrom

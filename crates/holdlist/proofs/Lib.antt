@@ -1,4 +1,3 @@
-pub mod FirstLaws
 pub mod HoldingLaws
 pub mod PartLaws
 pub mod LineLaws

@@ -13,7 +13,7 @@ use Rattle.table.specs.Entries.{Entry}
 use Rattle.table.specs.Tables.{Table, pathBytes}
 use Rattle.table.specs.Memory.{tableOf, holds}
 use Rattle.table.specs.Reading.{entriesFrom, isAtEntry, entryIn, firstEntry, nextEntry, InList, Reads}
-use Rattle.table.proofs.Overwrites.{appends-none, appends-as, appends-more}
+use Rattle.table.proofs.Overwrites.{appends-none, appends-as}
 use Rattle.table.proofs.TableLaws.{valid-parts}
 use Rattle.table.proofs.Puts.{valid-of}
 use Rattle.table.proofs.ReadingLaws.{first-in, first-from, from-entry, from-end, next-in}

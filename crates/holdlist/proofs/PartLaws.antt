@@ -9,18 +9,18 @@ use native.Mathlib.Omega.{arith}
 use lib.ListN.{length, drop, length-append, length-drop}
 use lib.Seq.{drop-append-le, drop-drop}
 use Rattle.refusals.specs.Refusals.{Result, refused, ok}
-use Rattle.table.specs.Calls.{recordSpace}
 use Rattle.records.specs.Records.{Change, Read, changeWords, readFirst}
 use Rattle.standby.specs.declared.Numbers.{Numbers}
 use Rattle.standby.specs.Arriving.{Left, arrival}
 use Rattle.input.specs.Words.{wordsOf}
 use Rattle.input.proofs.WordLaws.{words-front}
 use Rattle.holdlist.specs.Holding.{
+  recordSpace,
   Standing,
   stop,
   afterArrival,
   afterRecord,
-  behind,
+  untaken,
   afterNext,
   heldFrom,
   beginning,
@@ -28,8 +28,8 @@ use Rattle.holdlist.specs.Holding.{
   counted,
   heldOn,
 }
-use Rattle.holdlist.proofs.FirstLaws.{first-decides}
 use Rattle.holdlist.proofs.HoldingLaws.{
+  first-decides,
   advances-next,
   rests,
   rests-stopped,
@@ -91,19 +91,19 @@ counted-record w none s = counted-stop w s
 counted-record w (some r) s = unfold counted in counted-arrival w (arrival (s .memory) (changeWords (r .value)) (s .numbers)) (length (changeWords (r .value))) s
 
 module _ (w : ℕ) (input : List ℕ) where
-  counted-behind : (s : Standing) → behind (counted w s) input ≡ behind s (drop (4 * w) input)
+  counted-untaken : (s : Standing) → untaken (counted w s) input ≡ untaken s (drop (4 * w) input)
   unfolding counted
-  counted-behind s =
+  counted-untaken s =
       let sum : 4 * (w + s .words) ≡ 4 * w + 4 * s .words = omega arith in
       rw sum (sym (drop-drop (4 * s .words) (4 * w) input))
 
   counted-next : (s : Standing) → afterNext (counted w s) input ≡ counted w (afterNext s (drop (4 * w) input))
   unfolding afterNext
-  counted-next s = rw (counted-behind s) (counted-record w (readFirst (wordsOf (behind s (drop (4 * w) input)))) s)
+  counted-next s = rw (counted-untaken s) (counted-record w (readFirst (wordsOf (untaken s (drop (4 * w) input)))) s)
 
   counted-rests : (keep : ℕ) (s : Standing) → rests keep (counted w s) input ≡ rests keep s (drop (4 * w) input)
   unfolding rests counted
-  counted-rests keep s = rw (counted-behind s)
+  counted-rests keep s = rw (counted-untaken s)
 
   counted-on : (keep turns : ℕ) (s : Standing) → heldFrom keep turns (counted w s) input ≡ counted w (heldFrom keep turns s (drop (4 * w) input))
   unfolding heldFrom
@@ -158,7 +158,7 @@ module _ (keep least : ℕ) (long : keptBytes ≤ keep) (less : least ≤ keep) 
       go false e i = whole-next s e ∙ i ∙ ap whole (sym (held-step keep s a turns e))
 
   -- from a standing within the part, with what is left of the part
-  whole-on : (s : Standing) → 4 * s .words ≤ length a → whole s ≡ heldOn least s (behind s a ++ b)
+  whole-on : (s : Standing) → 4 * s .words ≤ length a → whole s ≡ heldOn least s (untaken s a ++ b)
   unfolding whole heldOn counted
   whole-on s h = go (s .stopped) refl
     where
@@ -172,7 +172,7 @@ module _ (keep least : ℕ) (long : keptBytes ≤ keep) (less : least ≤ keep) 
       again e = λ i. record { memory = s .memory; numbers = s .numbers; words = sym (add-zero (s .words)) i; stopped = e i }
 
       go : (c : Bool) → s .stopped ≡ c
-          → heldFrom least (length (a ++ b)) s (a ++ b) ≡ cond c s (counted (s .words) (heldFrom least (length (behind s a ++ b)) from (behind s a ++ b)))
+          → heldFrom least (length (a ++ b)) s (a ++ b) ≡ cond c s (counted (s .words) (heldFrom least (length (untaken s a ++ b)) from (untaken s a ++ b)))
       go true e = held-still least s (a ++ b) (length (a ++ b)) (rests-stopped least s (a ++ b) e)
       go false e =
           ap whole (again e)
@@ -181,10 +181,10 @@ module _ (keep least : ℕ) (long : keptBytes ≤ keep) (less : least ≤ keep) 
           (same-turns least rest (length (a ++ b)) (length rest) from (λ f. omega (arith, length-drop (4 * s .words) (a ++ b))) (λ f. omega arith)
           ∙ ap (λ (l : List ℕ). heldFrom least (length l) from l) (drop-append-le (4 * s .words) a b h))
 
--- holding a part, and then what is left of it with the next part behind it, is holding both at once
+-- holding a part, and then what is left of it with the next part after it, is holding both at once
 pub in-parts : (keep least : ℕ) → keptBytes ≤ keep → least ≤ keep → (m : List ℕ) (n : Numbers) (a b : List ℕ)
     → let s = heldFrom keep (length a) (beginning m n) a in
-    heldFrom least (length (a ++ b)) (beginning m n) (a ++ b) ≡ heldOn least s (behind s a ++ b)
+    heldFrom least (length (a ++ b)) (beginning m n) (a ++ b) ≡ heldOn least s (untaken s a ++ b)
 unfolding whole
 in-parts keep least long less m n a b =
     let s = heldFrom keep (length a) (beginning m n) a in

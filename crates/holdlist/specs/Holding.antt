@@ -7,7 +7,7 @@ use mathlib.Core.Bool.{Bool, true, false, _||_, cond}
 use lib.ListN.{length, drop}
 use lib.Dec.{leb}
 use Rattle.refusals.specs.Refusals.{Result, refused, ok}
-use Rattle.table.specs.Calls.{recordSpace}
+pub use Rattle.table.specs.Calls.{recordSpace}
 use Rattle.records.specs.Records.{Change, Read, changeWords, readFirst}
 use Rattle.standby.specs.declared.Numbers.{Numbers}
 use Rattle.standby.specs.declared.Arrival.{Arrival}
@@ -18,7 +18,7 @@ use Rattle.holdlist.specs.declared.Held.{Held}
 
 -- ---- record after record
 
--- the standby so far, how many words it has taken of the input, and whether reading stopped behind them
+-- the standby so far, how many words it has taken of the input, and whether reading stopped after them
 pub record Standing : Type 0 where
   pub memory : List ℕ
   pub numbers : Numbers
@@ -39,18 +39,18 @@ unfoldable pub afterRecord : Option (Read Change) → Standing → Standing
 afterRecord none s = stop s
 afterRecord (some r) s = afterArrival (arrival (s .memory) (changeWords (r .value)) (s .numbers)) (length (changeWords (r .value))) s
 
--- the input behind what was taken; a broken word leaves no whole word, which is malformed
-abbrev pub behind : Standing → List ℕ → List ℕ
-behind s input = drop (4 * s .words) input
+-- the input after what was taken; a broken word leaves no whole word, which is malformed
+abbrev pub untaken : Standing → List ℕ → List ℕ
+untaken s input = drop (4 * s .words) input
 
 unfoldable pub afterNext : Standing → List ℕ → Standing
-afterNext s input = afterRecord (readFirst (wordsOf (behind s input))) s
+afterNext s input = afterRecord (readFirst (wordsOf (untaken s input))) s
 
 -- record after record, while more than `keep` bytes of the input are left; each turn takes one, so that the input's length is enough of them
 unfoldable pub heldFrom : ℕ → ℕ → Standing → List ℕ → Standing
 heldFrom keep zero s input = s
 heldFrom keep (suc turns) s input =
-    cond (s .stopped || leb (length (behind s input)) keep) s (heldFrom keep turns (afterNext s input) input)
+    cond (s .stopped || leb (length (untaken s input)) keep) s (heldFrom keep turns (afterNext s input) input)
 
 -- a fresh standby's numbers
 abbrev pub unnumbered : Numbers
@@ -70,11 +70,11 @@ held m s input = heldFrom 0 (length input) (beginning m s) input
 abbrev pub keptBytes : ℕ
 keptBytes = 4 * recordSpace - 1
 
--- behind w words of the input
+-- after w words of the input
 unfoldable pub counted : ℕ → Standing → Standing
 counted w s = record { memory = s .memory; numbers = s .numbers; words = w + s .words; stopped = s .stopped }
 
--- goes on with what is left of the part before and the next part behind it, unless reading stopped; parts are as the whole: `in-parts`
+-- goes on with what is left of the part before and the next part after it, unless reading stopped; parts are as the whole: `in-parts`
 unfoldable pub heldOn : ℕ → Standing → List ℕ → Standing
 heldOn keep s input =
     cond (s .stopped) s (counted (s .words) (heldFrom keep (length input) (beginning (s .memory) (s .numbers)) input))

@@ -40,7 +40,7 @@ fn is_refused(answer: Arrival) -> bool
     }
 }
 
-// What is held behind an arrival of `count` words: one that is refused ends reading.
+// What is held after an arrival of `count` words: one that is refused ends reading.
 fn hold_arrived(held: Held, count: usize, numbers: Numbers, answer: Arrival) -> Held
     requires { ⌜ held .words + count < 2 ^ 64 ⌝ }
     ensures { λ r. ⌜ r ≡ heldArrived held count numbers answer ⌝ }
@@ -65,7 +65,7 @@ fn hold_record(mem: &mut [u8], held: Held, words: &[u32]) -> Held
     hold_arrived(held, words.len(), numbers, answer)
 }
 
-// The record that the bytes behind what was taken begin with: it ends where its own act and length say. A malformed one ends reading.
+// The record that the bytes after what was taken begin with: it ends where its own act and length say. A malformed one ends reading.
 fn hold_next(mem: &mut [u8], held: Held, bytes: &[u8]) -> Held
     requires { ⌜ 4 * held .words ≤ length (now bytes) ⌝ }
     ensures { λ r. ⌜ Holds (afterNext (standing (now (mem .entry)) held) (now (bytes .entry))) (now (mem .exit)) r ⌝ }

@@ -94,7 +94,7 @@ mul-keep-rest c =
 keep-rest-requires : tie.Need-keep-rest-requires Inv-loop μ-loop
 keep-rest-requires c κs =
     let held = c .before .before .before .before .before in
-    (grown held .1, slice-reshare-prefix-hold-on (held .before .before))
+    (omega (arith, grown held .1), slice-reshare-prefix-hold-on (held .before .before))
 
 sub-turns : tie.Need-sub-turns Inv-loop μ-loop
 sub-turns c = omega arith
@@ -109,7 +109,7 @@ loop-again c =
     let read = more .before .before .before .before in
     part-next (read .before .before .before .before .before .loop .inv) (not-true _ (read .before .before .if1 .taken)) (read .read-after .ensures)
     (more .before .before .before .buffer .given) (more .more .given .1) (held .hold-on .ensures)
-    (c .before .before .before .before .before .before .before .mem .given) (c .before .before .keep-rest .ensures) (c .before .buffer2 .given) (omega arith)
+    (c .before .before .before .before .before .before .before .mem .given) (c .before .before .keep-rest .ensures) (c .before .buffer2 .given) (omega arith) (omega arith)
 
 slice-reshare-prefix-hold-on-2 : tie.Need-slice-reshare-prefix-hold-on-2 Inv-loop μ-loop
 slice-reshare-prefix-hold-on-2 c = ended (c .before) .buffered .inside

@@ -1,12 +1,11 @@
 -- `hold_next` meets its contract: the words that were taken decide what the record is, and the record takes its own.
+use Prim.Native.Nat.{_*_}
 use mathlib.Core.Path.{sym}
 use native.Mathlib.Omega.{arith}
 use denote.Ref.{now}
 use lib.Seq.{length-take-le}
-use Prim.Native.Nat.{_*_}
-use Rattle.table.specs.Calls.{recordSpace}
 use Rattle.input.proofs.WordLaws.{words-left}
-use Rattle.holdlist.specs.Holding.{standing}
+use Rattle.holdlist.specs.Holding.{recordSpace, standing}
 use Rattle.holdlist.proofs.HoldingLaws.{words-inside, NextRecord, next-record, holds-malformed}
 use borrow.Author.Needs.{needs}
 use Rattle.holdlist.proofs.reading.hold_next.Statement.{statement}

@@ -41,7 +41,8 @@ part-start m buffer turns h l = record { input = []; so-far = refl; buffered = b
 module _ {first m buffer : List ℕ} {r : Held} {left turns : ℕ} (P : Part first m buffer r left turns) where
   -- the input so far with more after it
   with-part : (least : ℕ) → least ≤ keptBytes → (b : List ℕ)
-      → heldFrom least (length (P .input ++ b)) (beginning first unnumbered) (P .input ++ b) ≡ heldOn least (standing m r) (untaken (standing m r) (P .input) ++ b)
+      → heldFrom least (length (P .input ++ b)) (beginning first unnumbered) (P .input ++ b)
+      ≡ heldOn least (standing m r) (untaken (standing m r) (P .input) ++ b)
   with-part least h b = rw (P .so-far) at (in-parts keptBytes least (omega arith) h first unnumbered (P .input) b)
 
   -- a buffer with the same first bytes serves as well
@@ -57,15 +58,15 @@ module _ {first m buffer : List ℕ} {r : Held} {left turns : ℕ} (P : Part fir
       ∙ ap (λ (l : List ℕ). held first unnumbered l) (append-nil (P .input)) in
       all (P .input) (holds-as whole H)
 
-  module _ (e : r .stopped ≡ false) {after : List ℕ} {c : Came} (R : ReadsAfter buffer left after c) (same : length after ≡ length buffer) {more : ℕ} (f : c ≡ came.Bytes more)
-      {m′ : List ℕ} {q : Held} (H : Holds (heldOn keptBytes (standing m r) (take (left + more) after)) m′ q) where
+  module _ (e : r .stopped ≡ false) {after : List ℕ} {c : Came} (R : ReadsAfter buffer left after c) (same : length after ≡ length buffer)
+      {more : ℕ} (f : c ≡ came.Bytes more) {m′ : List ℕ} {q : Held} (H : Holds (heldOn keptBytes (standing m r) (take (left + more) after)) m′ q) where
     pub taken-inside : (r .words ≤ q .words) × (4 * (q .words - r .words) ≤ left + more)
     taken-inside =
         let w = on-words keptBytes (take (left + more) after) m r e H in
         (w .0, omega (arith, w .1, length-take-le (left + more) after (came-inside (P .buffered) R same f)))
 
-    pub part-next : {buffer′ : List ℕ} {taken left′ : ℕ} → length m′ ≡ length m → KeepsRest after (left + more) taken buffer′ left′ → length buffer′ ≡ length after
-        → taken ≡ 4 * (q .words - r .words) → 0 < turns → Part first m′ buffer′ q left′ (turns - 1)
+    pub part-next : {buffer′ : List ℕ} {taken left′ : ℕ} → length m′ ≡ length m → KeepsRest after (left + more) taken buffer′ left′
+        → length buffer′ ≡ length after → taken ≡ 4 * (q .words - r .words) → 0 < turns → Part first m′ buffer′ q left′ (turns - 1)
     part-next {taken = taken} l K k g t =
         let B = P .buffered in
         let w = taken-inside in

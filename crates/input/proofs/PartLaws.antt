@@ -13,7 +13,9 @@ use Rattle.input.specs.Parts.{bufferBytes, ReadsAfter, KeepsRest}
 -- ---- the bytes that are left, at the buffer's front
 
 drop-take : (l : List ℕ) (taken left : ℕ) → taken + left ≤ length l → drop taken (take (taken + left) l) ≡ take left (drop taken l)
-drop-take l taken left h = ap (drop taken) (take-add taken left l) ∙ drop-at (take taken l) (take left (drop taken l)) taken (length-take-le taken l (omega arith))
+drop-take l taken left h =
+    ap (drop taken) (take-add taken left l)
+    ∙ drop-at (take taken l) (take left (drop taken l)) taken (length-take-le taken l (omega arith))
 
 pub moved : (l : List ℕ) (len taken left : ℕ) {m : List ℕ} → len ≤ length l → taken + left ≡ len → m ≡ overwrite l 0 (take left (drop taken l))
     → take left m ≡ drop taken (take len l)
@@ -63,7 +65,13 @@ module _ {input buffer : List ℕ} {taken left turns : ℕ} (B : Buffered input 
     buffered-next some taken′ e h K l t =
         let new = newBytes after left more in
         let all : length input - taken + length new ≡ left + more =
-        omega (arith, sym (length-drop taken input), sym (length-append (drop taken input) new), ap length joined, length-take-le (left + more) after came-inside) in
+        omega (
+          arith,
+          length-drop taken input,
+          length-append (drop taken input) new,
+          ap length joined,
+          length-take-le (left + more) after came-inside,
+        ) in
         record {
           rest =
               K .front

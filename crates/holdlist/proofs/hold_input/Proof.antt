@@ -56,13 +56,15 @@ add-len : tie.Need-add-len Inv-loop μ-loop
 add-len c =
     let read = c .before .before .before .before .before .before in
     let B = read .before .before .before .before .before .loop .inv .buffered in
-    omega (arith, came-inside B (read .read-after .ensures) (c .before .before .before .before .before .buffer .given) (c .before .before .more .given .1), B .room)
+    let same = c .before .before .before .before .before .buffer .given in
+    omega (arith, came-inside B (read .read-after .ensures) same (c .before .before .more .given .1), B .room)
 
 slice-reshare-prefix-hold-on : tie.Need-slice-reshare-prefix-hold-on Inv-loop μ-loop
 slice-reshare-prefix-hold-on c =
     let read = c .before .before .before .before .before .before .before in
-    came-inside (read .before .before .before .before .before .loop .inv .buffered) (read .read-after .ensures) (c .before .before .before .before .before .before .buffer .given)
-    (c .before .before .before .more .given .1)
+    let B = read .before .before .before .before .before .loop .inv .buffered in
+    let same = c .before .before .before .before .before .before .buffer .given in
+    came-inside B (read .read-after .ensures) same (c .before .before .before .more .given .1)
 
 slice-aggregate-hold-on : tie.Need-slice-aggregate-hold-on Inv-loop μ-loop
 slice-aggregate-hold-on c = sym (length-take-le _ _ (slice-reshare-prefix-hold-on (c .before)))
@@ -70,7 +72,8 @@ slice-aggregate-hold-on c = sym (length-take-le _ _ (slice-reshare-prefix-hold-o
 hold-on-requires : tie.Need-hold-on-requires Inv-loop μ-loop
 hold-on-requires c κs =
     let B = c .before .before .before .before .before .before .before .before .before .before .before .before .before .loop .inv .buffered in
-    omega (arith, slice-aggregate-hold-on c, slice-reshare-prefix-hold-on (c .before), c .before .before .before .before .before .before .before .buffer .given, B .room, B .few)
+    let same = c .before .before .before .before .before .before .before .buffer .given in
+    omega (arith, slice-aggregate-hold-on c, slice-reshare-prefix-hold-on (c .before), same, B .room, B .few)
 
 -- the words that were taken are in the buffer
 grown : (c : tie.After-hold-on Inv-loop μ-loop)
@@ -109,7 +112,8 @@ loop-again c =
     let read = more .before .before .before .before in
     part-next (read .before .before .before .before .before .loop .inv) (not-true _ (read .before .before .if1 .taken)) (read .read-after .ensures)
     (more .before .before .before .buffer .given) (more .more .given .1) (held .hold-on .ensures)
-    (c .before .before .before .before .before .before .before .mem .given) (c .before .before .keep-rest .ensures) (c .before .buffer2 .given) (omega arith) (omega arith)
+    (c .before .before .before .before .before .before .before .mem .given) (c .before .before .keep-rest .ensures) (c .before .buffer2 .given)
+    (omega arith) (omega arith)
 
 slice-reshare-prefix-hold-on-2 : tie.Need-slice-reshare-prefix-hold-on-2 Inv-loop μ-loop
 slice-reshare-prefix-hold-on-2 c = ended (c .before) .buffered .inside
@@ -126,7 +130,9 @@ same-length-3 : tie.Need-same-length-3 Inv-loop μ-loop
 same-length-3 c = c .before .mem2 .given ∙ c .before .before .before .before .before .before .loop .inv .same
 
 same-length-4 : tie.Need-same-length-4 Inv-loop μ-loop
-same-length-4 c = ended (c .before .before .before .before .before) .buffered .room ∙ sym (c .before .before .before .before .before .before .before .before .before .pre)
+same-length-4 c =
+    ended (c .before .before .before .before .before) .buffered .room
+    ∙ sym (c .before .before .before .before .before .before .before .before .before .pre)
 
 returns-2 : tie.Need-returns-2 Inv-loop μ-loop
 returns-2 c = part-end (ended (c .before .before .before .before .before)) (c .before .before .hold-on2 .ensures)

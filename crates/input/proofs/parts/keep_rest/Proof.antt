@@ -22,7 +22,8 @@ returns c =
     let move = c .before .before in
     let start = move .before .before .before in
     let a = start .args in
-    record { count = refl; front = moved (now (a .buffer)) (a .len) (a .taken) (a .len - a .taken) (start .pre .1) (omega (arith, start .pre .0)) (move .move-down .ensures) }
+    let all = moved (now (a .buffer)) (a .len) (a .taken) (a .len - a .taken) (start .pre .1) (omega (arith, start .pre .0)) in
+    record { count = refl; front = all (move .move-down .ensures) }
 
 pub keep-rest-spec : {M : Type 1} → statement M
 keep-rest-spec = tie.close (tie.spec sub-left move-down-requires same-length returns)

@@ -42,7 +42,8 @@ returns-2 c =
     let low = c .before .before .before .before in
     let high = low .before in
     let test = high .before .before in
-    byte-escaped _ (sym (test .before .is-plain .ensures) ∙ test .if1 .left) (high .hex-digit .ensures) (low .hex-digit2 .ensures) (c .before .before .append2 .ensures)
+    byte-escaped _ (sym (test .before .is-plain .ensures) ∙ test .if1 .left) (high .hex-digit .ensures) (low .hex-digit2 .ensures)
+    (c .before .before .append2 .ensures)
 
 pub append-byte-spec : {M : Type 1} → statement M
 append-byte-spec =

@@ -1,5 +1,5 @@
 -- Laws of check, request and revoke: what carrying out a decision comes to, each way through the checking order, and what is handed on.
-use Prim.Native.Nat.{ℕ, _≤_, _<_}
+use Prim.Native.Nat.{ℕ, _+_, _≤_, _<_}
 use mathlib.Core.Path.{_≡_, refl, sym, ap, _∙_}
 use mathlib.Core.List.{List, []}
 use mathlib.Core.Option.{Option, none, some}
@@ -17,137 +17,178 @@ use Rattle.paths.specs.declared.Descriptor.the-variants.{NoPath, Path}
 use Rattle.paths.specs.declared.Resolution.{Resolution}
 use Rattle.paths.specs.declared.Resolution.the-variants as resolution
 use Rattle.paths.specs.Resolving.{resolve}
-use Rattle.paths.specs.Copying.{begun}
+use Rattle.paths.specs.Copying.{begun, Appends}
 use Rattle.paths.specs.Giving.{Query, isQuery, queryOf, given, givenSize, givenInto, Gives}
 use Rattle.paths.proofs.GivingLaws.{Stands, gives-refused, gives-stands, given-stands}
-use Rattle.table.specs.declared.Action.{Action}
-use Rattle.table.specs.declared.Numbering.{Numbering}
-use Rattle.table.specs.declared.Numbering.the-variants.{Plain}
-use Rattle.table.specs.declared.Outcome.{Outcome}
 use Rattle.table.specs.declared.Outcome.the-variants.{Done, Refused}
 use Rattle.table.specs.Tables.{Table}
-use Rattle.table.specs.Acts.{Act, applyActs}
+use Rattle.table.specs.Acts.{Act, applyAct, applyActs}
 use Rattle.table.specs.Memory.{tableOf, holds, doActs}
-use Rattle.table.specs.Carrying.{Link, plain, carryCause, actsOf, actOf, actionOf, fits, CarriesOut}
-use Rattle.table.specs.Calls.{tableIn, linkIn}
-use Rattle.table.proofs.ActLaws.{carried-done, carried-refused, carried-held, acted-carried}
-use Rattle.table.proofs.CarryingLaws.{action-again}
+use Rattle.table.specs.Carrying.{actsOf, actOf, fits}
+use Rattle.table.specs.Calls.{tableIn}
+use Rattle.table.proofs.ActLaws.{outcome-done, outcome-refused}
+use Rattle.table.proofs.Overwrites.{from-start}
 use Rattle.table.proofs.CallLaws.{no-table, a-table}
+use Rattle.records.specs.Records.{allWords}
+use Rattle.link.specs.declared.Link.{Link}
+use Rattle.link.specs.declared.Sent.{Sent}
+use Rattle.link.specs.Linking.{lacksRoom, roomIn, Numbering, numbering, lacksRun, runIn}
+use Rattle.link.specs.Sending.{Lent, Sends}
+use Rattle.link.specs.Steps.{Records, Admits, causeOn, Performs}
+use Rattle.link.proofs.LinkLaws.{room-short, room-long, run-unknown, run-known, acted-carried}
+use Rattle.link.proofs.SendingLaws.{no-changes, records-none, sends-nothing, sends-recorded}
 use Rattle.walk.specs.declared.PermissionState.{PermissionState}
 use Rattle.walk.specs.declared.AllowPartial.the-variants.{TreatAsPartialGranted}
 use Rattle.walk.specs.Walk.{queryDesc}
-use Rattle.walk.specs.declared.Answer.{Answer}
 use Rattle.walk.specs.declared.Answer.the-variants as answer
-use Rattle.calls.specs.declared.PromptResponse.{PromptResponse}
-use Rattle.calls.specs.declared.ResponseRead.the-variants.{Response, Unknown}
-use Rattle.calls.specs.declared.Call.{Call}
-use Rattle.calls.specs.declared.Decided.{Decided}
+use Rattle.deciding.specs.declared.PromptResponse.{PromptResponse}
+use Rattle.deciding.specs.declared.ResponseRead.the-variants.{Response, Unknown}
+use Rattle.deciding.specs.declared.Call.{Call}
+use Rattle.deciding.specs.declared.Decided.{Decided}
 use Rattle.calls.specs.declared.Settled.{Settled}
 use Rattle.calls.specs.declared.Settled.the-variants as settled-as
 use Rattle.calls.specs.declared.Asked.{Asked}
-use Rattle.calls.specs.Decisions.{responseOf, knownResponse, Decision, decide}
-use Rattle.calls.specs.Texts.{textOf}
+use Rattle.calls.specs.declared.Revoked.{Revoked}
+use Rattle.deciding.specs.Decisions.{responseOf, knownResponse, Decision, decide, revokeAct, revokeDesc}
+use Rattle.deciding.specs.Questions.{textBytes, textSpace}
+use Rattle.deciding.specs.Steps.{Decides}
+use Rattle.deciding.specs.Texts.{textOf}
 use Rattle.calls.specs.Calls.{
   carriedOut,
+  carriedOn,
   answerIn,
   askedIn,
-  actsIn,
+  decidedActs,
   textIn,
   settled,
+  settledOn,
   settledAs,
   Settles,
-  textBytes,
-  textSpace,
+  About,
   askCall,
   textDue,
   Answers,
   Asks,
-  revokeAct,
-  revokeDesc,
   revokeCall,
   Revokes,
 }
-use Rattle.calls.specs.Asking.{Decides, SettlesQuery, RevokesQuery, refusedAsk, HasText, Finishes}
-use Rattle.calls.proofs.TextLaws.{length-text}
-use Rattle.calls.proofs.FittingLaws.{revoke-fits}
+use Rattle.calls.specs.Steps.{SettlesQuery, RevokesQuery, refusedAsk, refusedRevoke, Finishes}
+use Rattle.deciding.proofs.TextLaws.{length-text}
+use Rattle.deciding.proofs.QuestionLaws.{text-same}
+use Rattle.deciding.proofs.FittingLaws.{revoke-fits}
 
 -- ---- a decision that is carried out
 
-pub acts-by : (cause : Option Refusal) (decision : Decision) → actsOf cause (decision .act) ≡ actsIn (unless cause decision)
-unfolding actsIn unless actsOf
+pub acts-by : (cause : Option Refusal) (decision : Decision) → actsOf cause (decision .act) ≡ decidedActs (unless cause decision)
+unfolding decidedActs unless actsOf
 acts-by none decision = refl
 acts-by (some cause) decision = refl
 
-module _ (decision : Decision) {numbers : Numbering} {m m′ : List ℕ} {o : Outcome} (C : CarriesOut numbers (decision .act) m m′ o) where
-  pub carried-memory : m′ ≡ doActs m (actsIn (carriedOut numbers (tableOf m) decision))
+module _ (decision : Decision) {link : Link} {l : Lent} {at : ℕ} {l′ : Lent} {o : Sent}
+    (P : Performs link (decision .act) l at l′ o) where
+  same-acts : actsOf (causeOn link l (decision .act)) (decision .act) ≡ decidedActs (carriedOn link l decision)
   unfolding carriedOut
-  carried-memory = C .memory ∙ ap (doActs m) (acts-by (carryCause numbers (tableOf m) (decision .act)) decision)
+  same-acts = acts-by (causeOn link l (decision .act)) decision
 
-  pub carried-stops : {cause : Refusal} → o ≡ Refused cause → carriedOut numbers (tableOf m) decision ≡ refused cause
-  unfolding carriedOut unless
-  carried-stops e = rw (carried-refused C e)
+  pub carried-memory : l′ .memory ≡ doActs (l .memory) (decidedActs (carriedOn link l decision))
+  carried-memory = P .memory ∙ ap (doActs (l .memory)) same-acts
 
-  pub carried-goes : o ≡ Done → carriedOut numbers (tableOf m) decision ≡ ok decision
+  pub carried-records : Records link (decidedActs (carriedOn link l decision)) (l .number) (l .words) at (l′ .number) (l′ .words) (o .words)
+  carried-records = rw same-acts at (P .records)
+
+  pub carried-stops : {cause : Refusal} → o .outcome ≡ Refused cause → carriedOn link l decision ≡ refused cause
   unfolding carriedOut unless
-  carried-goes e = rw (carried-done C e)
+  carried-stops e = rw (outcome-refused _ (sym (P .outcome) ∙ e))
+
+  pub carried-goes : o .outcome ≡ Done → carriedOn link l decision ≡ ok decision
+  unfolding carriedOut unless
+  carried-goes e = rw (outcome-done _ (sym (P .outcome) ∙ e))
 
 -- the act of the code's decision is the decision's
-pub carries-decided : {numbers : Numbering} {decision : Decision} {q : List ℕ} {r : Decided} {m m′ : List ℕ} {o : Outcome}
-    → Decides decision q r → CarriesOut numbers (actOf (r .action) q) m m′ o → CarriesOut numbers (decision .act) m m′ o
-carries-decided D C = rw (D .act) at C
+carries-decided : {link : Link} {decision : Decision} {z : List ℕ} {r : Decided} {l : Lent} {at : ℕ} {l′ : Lent} {o : Sent}
+    → Decides decision z r → Performs link (actOf (r .action) z) l at l′ o → Performs link (decision .act) l at l′ o
+carries-decided D P = rw (D .act) at P
 
 -- ---- check and request of what is resolved
 
-module _ {call : Call} {numbers : Numbering} {m m′ : List ℕ} {q : Query} {response : PromptResponse} {o : Outcome}
-    (C : CarriesOut numbers (decide call (tableOf m) q response .act) m m′ o) where
-  pub query-refused : {n : ℕ} {cause : Refusal} → o ≡ Refused cause → SettlesQuery call numbers m q response n m′ (settled-as.Refused cause)
+module _ {call : Call} {link : Link} {l : Lent} {at : ℕ} {l′ : Lent} {q : Query} {response : PromptResponse} {z : List ℕ} {r : Decided} {o : Sent}
+    (D : Decides (decide call (tableOf (l .memory)) q response) z r) (P : Performs link (actOf (r .action) z) l at l′ o) where
+  pub query-refused : {n : ℕ} {cause : Refusal} → o .outcome ≡ Refused cause → SettlesQuery call link l at q response n l′ (settled-as.Refused cause)
   unfolding settledAs
-  query-refused e = record { answer = rw (carried-stops (decide call (tableOf m) q response) C e); memory = carried-memory _ C }
+  query-refused e =
+      let decision = decide call (tableOf (l .memory)) q response in
+      let C = carries-decided D P in
+      record {
+        words = o .words;
+        answer = rw (carried-stops decision C e);
+        memory = carried-memory decision C;
+        records = carried-records decision C;
+        few = P .few;
+      }
 
-  pub query-decided : {n : ℕ} {l : List ℕ} {r : Decided} → o ≡ Done → Decides (decide call (tableOf m) q response) l r
-      → SettlesQuery call numbers m q response n m′ (settled-as.Decided (r .state) (r .asked) (r .writes) n (r .action))
+  pub query-decided : {n : ℕ} → o .outcome ≡ Done
+      → SettlesQuery call link l at q response n l′ (settled-as.Decided (r .state) (r .asked) (r .writes) n (o .words))
   unfolding settledAs
-  query-decided {l = l} {r = r} e D = record {
-    answer = rw (carried-goes (decide call (tableOf m) q response) C e, ← D .state, ← D .asked, ← D .writes, ← D .act, action-again (r .action) l);
-    memory = carried-memory _ C;
-  }
+  query-decided e =
+      let decision = decide call (tableOf (l .memory)) q response in
+      let C = carries-decided D P in
+      record {
+        words = o .words;
+        answer = rw (carried-goes decision C e, ← D .state, ← D .asked, ← D .writes);
+        memory = carried-memory decision C;
+        records = carried-records decision C;
+        few = P .few;
+      }
 
 -- ---- and of what is given
 
-module _ {call : Call} {numbers : Numbering} {d : Descriptor} {p cwd : List ℕ} {response : PromptResponse} {m s s′ : List ℕ} {r : Resolution}
+module _ {call : Call} {link : Link} {d : Descriptor} {p cwd : List ℕ} {response : PromptResponse} {l : Lent} {at : ℕ} {s s′ : List ℕ} {r : Resolution}
     (G : Gives d p cwd s r s′) where
-  pub settles-refused : {cause : Refusal} → r ≡ resolution.Refused cause → Settles call numbers m d p cwd response s m s′ (settled-as.Refused cause)
-  unfolding settled andThen settledAs actsIn doActs
-  settles-refused e = record { answer = rw (gives-refused G e); memory = rw (gives-refused G e); bytes = G .bytes }
+  pub settles-refused : {cause : Refusal} → r ≡ resolution.Refused cause → Settles call link l at d p cwd response s l s′ (settled-as.Refused cause)
+  unfolding settled andThen settledAs decidedActs doActs
+  settles-refused e = record {
+    words = at;
+    answer = rw (gives-refused G e);
+    memory = rw (gives-refused G e);
+    records = rw (gives-refused G e) (records-none link (l .number) (l .words) at);
+    few = omega arith;
+    bytes = G .bytes;
+  }
 
-  pub settles-query : {n : ℕ} {m′ : List ℕ} {o : Settled} → r ≡ resolution.Resolved n
-      → SettlesQuery call numbers m (queryOf d (take n s′)) response n m′ o → Settles call numbers m d p cwd response s m′ s′ o
+  pub settles-query : {n : ℕ} {l′ : Lent} {o : Settled} → r ≡ resolution.Resolved n
+      → SettlesQuery call link l at (queryOf d (take n s′)) response n l′ o → Settles call link l at d p cwd response s l′ s′ o
   unfolding settled andThen
   settles-query e Q =
       let S = gives-stands G e in
-      record { answer = rw (S .query, ← S .size) (Q .answer); memory = rw (S .query) (Q .memory); bytes = G .bytes }
+      record {
+        words = Q .words;
+        answer = rw (S .query, ← S .size) (Q .answer);
+        memory = rw (S .query) (Q .memory);
+        records = rw (S .query) (Q .records);
+        few = Q .few;
+        bytes = G .bytes;
+      }
 
 -- ---- what a settled call tells
 
-refused-by : (c : Result Decision) (n : ℕ) {cause : Refusal} → settledAs c n ≡ settled-as.Refused cause → c ≡ refused cause
+refused-by : (c : Result Decision) (n k : ℕ) {cause : Refusal} → settledAs c n k ≡ settled-as.Refused cause → c ≡ refused cause
 unfolding settledAs
-refused-by (refused cause) n e = cc
-refused-by (ok decision) n e = let z : _≡_ {A = ℕ} 0 1 = cc in absurd (omega arith)
+refused-by (refused cause) n k e = cc
+refused-by (ok decision) n k e = let z : _≡_ {A = ℕ} 0 1 = cc in absurd (omega arith)
 
 -- the decision that the code's answer speaks of
-pub record Told (c : Result Decision) (state : PermissionState) (asked writes : Bool) (action : Action) : Type 0 where
+pub record Told (c : Result Decision) (state : PermissionState) (asked writes : Bool) : Type 0 where
   pub decision : Decision
   pub is : c ≡ ok decision
   pub state-is : state ≡ decision .state
   pub asked-is : asked ≡ decision .asked
   pub writes-is : writes ≡ decision .writes
-  pub action-is : action ≡ actionOf (decision .act)
 
-told-by : (c : Result Decision) (n : ℕ) {k : ℕ} {state : PermissionState} {asked writes : Bool} {action : Action}
-    → settledAs c n ≡ settled-as.Decided state asked writes k action → Told c state asked writes action × (k ≡ n)
+told-by : (c : Result Decision) (n k : ℕ) {m j : ℕ} {state : PermissionState} {asked writes : Bool}
+    → settledAs c n k ≡ settled-as.Decided state asked writes m j → Told c state asked writes × (m ≡ n) × (j ≡ k)
 unfolding settledAs
-told-by (refused cause) n e = let z : _≡_ {A = ℕ} 0 1 = cc in absurd (omega arith)
-told-by (ok decision) n e = (record { decision = decision; is = refl; state-is = cc; asked-is = cc; writes-is = cc; action-is = cc }, cc)
+told-by (refused cause) n k e = let z : _≡_ {A = ℕ} 0 1 = cc in absurd (omega arith)
+told-by (ok decision) n k e = (record { decision = decision; is = refl; state-is = cc; asked-is = cc; writes-is = cc }, cc, cc)
 
 record IsOk (g : Result Query) : Type 0 where
   query : Query
@@ -164,103 +205,120 @@ pub decided-stands : (call : Call) (numbers : Numbering) (t : Table) (d : Descri
 unfolding settled
 decided-stands call numbers t d p cwd response s e = given-stands d p cwd s (given-ok (given d p cwd) _ e .is)
 
-module _ {call : Call} {numbers : Numbering} {m : List ℕ} {d : Descriptor} {p cwd : List ℕ} {response : PromptResponse} {s m′ s′ : List ℕ} {r : Settled}
-    (S : Settles call numbers m d p cwd response s m′ s′ r) where
-  pub settled-refused : {cause : Refusal} → r ≡ settled-as.Refused cause → settled call numbers (tableOf m) d p cwd response ≡ refused cause
-  settled-refused e = refused-by (settled call numbers (tableOf m) d p cwd response) _ (sym (S .answer) ∙ e)
+module _ {call : Call} {link : Link} {l : Lent} {at : ℕ} {d : Descriptor} {p cwd : List ℕ} {response : PromptResponse} {s : List ℕ} {l′ : Lent} {s′ : List ℕ} {r : Settled}
+    (S : Settles call link l at d p cwd response s l′ s′ r) where
+  pub settled-refused : {cause : Refusal} → r ≡ settled-as.Refused cause → settledOn call link l d p cwd response ≡ refused cause
+  settled-refused e = refused-by (settledOn call link l d p cwd response) _ _ (sym (S .answer) ∙ e)
 
-  module _ {state : PermissionState} {asked writes : Bool} {n : ℕ} {action : Action} (e : r ≡ settled-as.Decided state asked writes n action) where
-    pub settled-told : Told (settled call numbers (tableOf m) d p cwd response) state asked writes action
-    settled-told = told-by (settled call numbers (tableOf m) d p cwd response) _ (sym (S .answer) ∙ e) .0
+  module _ {state : PermissionState} {asked writes : Bool} {n k : ℕ} (e : r ≡ settled-as.Decided state asked writes n k) where
+    pub settled-told : Told (settledOn call link l d p cwd response) state asked writes
+    settled-told = told-by (settledOn call link l d p cwd response) _ _ (sym (S .answer) ∙ e) .0
 
     pub settled-stands : Stands d p cwd n s′
     settled-stands =
-        rw (told-by (settled call numbers (tableOf m) d p cwd response) _ (sym (S .answer) ∙ e) .1, S .bytes)
-        (decided-stands call numbers (tableOf m) d p cwd response s (settled-told .is))
+        rw (told-by (settledOn call link l d p cwd response) _ _ (sym (S .answer) ∙ e) .1, S .bytes)
+        (decided-stands call (numbering link (l .number)) (tableOf (l .memory)) d p cwd response s (settled-told .is))
+
+    pub settled-words : k ≡ S .words
+    settled-words = told-by (settledOn call link l d p cwd response) _ _ (sym (S .answer) ∙ e) .2
+
+  -- a call that is refused on the way records nothing
+  pub stopped-records : {cause : Refusal} → r ≡ settled-as.Refused cause
+      → Records link (decidedActs (settledOn call link l d p cwd response)) (l .number) (l .words) at (l′ .number) (l′ .words) at
+  unfolding decidedActs allWords
+  stopped-records e =
+      let silent : S .words ≡ at + 0 = S .records .words .end ∙ rw (settled-refused e, no-changes link (l .number)) in
+      let same : S .words ≡ at = omega (arith, silent) in
+      rw same at (S .records)
 
 -- ---- the checking order of check and request
 
-module _ (call : Call) (link : Link) (m s : List ℕ) (d : Descriptor) (p cwd : List ℕ) (response : ℕ) where
-  pub ask-no-table : holds m ≡ false → askCall call link m s d p cwd response ≡ refused NoTable
+module _ (call : Call) (link : Link) (l : Lent) (s : List ℕ) (a : About) (response : ℕ) where
+  pub ask-no-table : holds (l .memory) ≡ false → askCall call link l s a response ≡ refused NoTable
   unfolding askCall andThen
-  ask-no-table h = rw (no-table m h)
+  ask-no-table h = rw (no-table (l .memory) h)
 
-  module _ (h : holds m ≡ true) where
-    pub ask-no-space : length s < textBytes → askCall call link m s d p cwd response ≡ refused NoSpace
+  module _ (h : holds (l .memory) ≡ true) where
+    pub ask-no-space : length s < textBytes → askCall call link l s a response ≡ refused NoSpace
     unfolding askCall andThen textSpace firstCause unless
-    ask-no-space l = rw (a-table m h, lt-ltb _ _ l)
+    ask-no-space short = rw (a-table (l .memory) h, lt-ltb _ _ short)
 
     module _ (space : textBytes ≤ length s) where
-      pub ask-unlinked : {cause : Refusal} → linkIn 1 link ≡ refused cause → askCall call link m s d p cwd response ≡ refused cause
+      pub ask-short : lacksRoom 1 link (l .words) ≡ true → askCall call link l s a response ≡ refused NoSpace
       unfolding askCall andThen textSpace firstCause unless
-      ask-unlinked e = rw (a-table m h, le-ltb _ _ space, e)
+      ask-short e = rw (a-table (l .memory) h, le-ltb _ _ space, room-short 1 link (l .words) e)
 
-      module _ {numbers : Numbering} (room : linkIn 1 link ≡ ok numbers) where
-        pub ask-unknown : responseOf response ≡ Unknown → askCall call link m s d p cwd response ≡ refused refusal.Unknown
+      pub ask-unlinked : lacksRoom 1 link (l .words) ≡ false → lacksRun link ≡ true → askCall call link l s a response ≡ refused refusal.Unknown
+      unfolding askCall andThen textSpace firstCause unless
+      ask-unlinked e f = rw (a-table (l .memory) h, le-ltb _ _ space, room-long 1 link (l .words) e, run-unknown link (l .number) f)
+
+      module _ (A : Admits 1 link (l .words)) where
+        pub ask-unknown : responseOf response ≡ Unknown → askCall call link l s a response ≡ refused refusal.Unknown
         unfolding askCall andThen textSpace firstCause unless knownResponse
-        ask-unknown u = rw (a-table m h, le-ltb _ _ space, room, u)
+        ask-unknown u = rw (a-table (l .memory) h, le-ltb _ _ space, room-long 1 link (l .words) (A .roomy), run-known link (l .number) (A .run), u)
 
         pub ask-known : (known : PromptResponse) → responseOf response ≡ Response known
-            → askCall call link m s d p cwd response ≡ settled call numbers (tableOf m) d p cwd known
+            → askCall call link l s a response ≡ settledOn call link l (a .descriptor) (a .given) (a .cwd) known
         unfolding askCall andThen textSpace firstCause unless knownResponse
-        ask-known known u = rw (a-table m h, le-ltb _ _ space, room, u)
+        ask-known known u = rw (a-table (l .memory) h, le-ltb _ _ space, room-long 1 link (l .words) (A .roomy), run-known link (l .number) (A .run), u)
 
 -- ---- what the call answers and leaves
 
-pub text-same : {d : Descriptor} {p cwd : List ℕ} {n : ℕ} {s : List ℕ} → Stands d p cwd n s → textOf d p (take n s) ≡ textOf d p (resolve p cwd)
-text-same {d = NoPath} S = unfold textOf in refl
-text-same {d = Path} {p = p} S = ap (textOf Path p) (S .bytes refl)
+module _ {state : PermissionState} {asked writes : Bool} {d : Descriptor} {given resolved s : List ℕ} where
+  pub finishes-written : {words : ℕ} {s′ : List ℕ} {n : ℕ} → writes ≡ true → Appends (textOf d given resolved) s 0 s′ n
+      → Finishes state asked writes words d given resolved s s′ (record { answer = answer.State state; asked = asked; text = n; words = words })
+  finishes-written e W = rw e (record { answer = refl; told = refl; sent = refl; size = from-start W .1; space = from-start W .0 })
 
-pub text-room : {d : Descriptor} {p cwd : List ℕ} {n : ℕ} {s t : List ℕ} → textBytes ≤ length t → Stands d p cwd n s → HasText d p s n t
-text-room h S = record { room = h; inside = S .room; short = S .short; brief = S .brief }
+pub finishes-silent : {state : PermissionState} {asked writes : Bool} {words : ℕ} {d : Descriptor} (given resolved s : List ℕ) → writes ≡ false
+    → Finishes state asked writes words d given resolved s s (record { answer = answer.State state; asked = asked; text = 0; words = words })
+unfolding begun
+finishes-silent given resolved s e = rw e (record { answer = refl; told = refl; sent = refl; size = refl; space = refl })
 
-pub answers-refused : {c : Result Decision} {d : Descriptor} {p cwd s : List ℕ} {cause : Refusal} {r : Asked} → c ≡ refused cause → r ≡ refusedAsk cause
-    → Answers c d p cwd s s r
+pub answers-refused : {c : Result Decision} {a : About} {s : List ℕ} {cause : Refusal} {r : Asked} → c ≡ refused cause → r ≡ refusedAsk cause
+    → Answers c a s s r
 unfolding answerIn askedIn textDue textIn begun
 answers-refused e f = rw f (record { answer = rw e; asked = rw e; size = rw e; space = rw e })
 
-pub answers-finished : {call : Call} {numbers : Numbering} {m : List ℕ} {d : Descriptor} {p cwd : List ℕ} {known : PromptResponse} {z m′ z′ : List ℕ} {r : Settled}
-    {c : Result Decision} → c ≡ settled call numbers (tableOf m) d p cwd known → (S : Settles call numbers m d p cwd known z m′ z′ r)
-    → {state : PermissionState} {asked writes : Bool} {n : ℕ} {action : Action} {s s′ : List ℕ} {a : Asked} → (f : r ≡ settled-as.Decided state asked writes n action)
-    → Finishes state asked writes d p (take n z′) s s′ a → Answers c d p cwd s s′ a
-unfolding answerIn askedIn textDue textIn
-answers-finished e S f F =
-    let T = settled-told S f in
-    let text = text-same (settled-stands S f) in
-    record {
-      answer = rw (e, T .is) (F .answer ∙ ap answer.State (T .state-is));
-      asked = rw (e, T .is) (F .told ∙ T .asked-is);
-      size = rw (e, T .is, ← T .writes-is, ← text) (F .size);
-      space = rw (e, T .is, ← T .writes-is, ← text) (F .space);
-    }
+module _ {call : Call} {link : Link} {l : Lent} {a : About} {known : PromptResponse} {z : List ℕ} {l′ : Lent} {z′ : List ℕ} {r : Settled} {c : Result Decision}
+    (e : c ≡ settledOn call link l (a .descriptor) (a .given) (a .cwd) known) (S : Settles call link l 0 (a .descriptor) (a .given) (a .cwd) known z l′ z′ r) where
+  pub settled-sends : Sends link (decidedActs c) l l′ (S .words)
+  settled-sends = rw e (sends-recorded (S .memory) (S .records))
 
-module _ {call : Call} {m s : List ℕ} {d : Descriptor} {p cwd : List ℕ} {response : ℕ} where
-  pub asks-refused : {cause : Refusal} {m′ : List ℕ} {r : Asked} → askCall call plain m s d p cwd response ≡ refused cause → r ≡ refusedAsk cause → m′ ≡ m
-      → Asks call m s d p cwd response m′ s r
-  unfolding actsIn doActs
-  asks-refused e f q = record { answers = answers-refused e f; memory = rw e q }
+  -- nothing is sent by a call that is refused on the way
+  pub stopped-sends : {cause : Refusal} → r ≡ settled-as.Refused cause → Sends link (decidedActs c) l l′ 0
+  unfolding decidedActs allWords
+  stopped-sends f =
+      let stop : c ≡ refused _ = e ∙ settled-refused S f in
+      let silent : S .words ≡ 0 = settled-sends .count ∙ rw (stop, no-changes link (l .number)) in
+      rw silent at settled-sends
 
-  module _ {known : PromptResponse} (e : askCall call plain m s d p cwd response ≡ settled call Plain (tableOf m) d p cwd known)
-      {z m′ z′ : List ℕ} {r : Settled} (S : Settles call Plain m d p cwd known z m′ z′ r) where
-    pub asks-stopped : {cause : Refusal} {a : Asked} → r ≡ settled-as.Refused cause → a ≡ refusedAsk cause → Asks call m s d p cwd response m′ s a
-    unfolding actsIn doActs
-    asks-stopped f g = asks-refused (e ∙ settled-refused S f) g (S .memory ∙ rw (settled-refused S f))
+  pub answers-finished : {state : PermissionState} {asked writes : Bool} {n k : ℕ} {s s′ : List ℕ} {o : Asked} → (f : r ≡ settled-as.Decided state asked writes n k)
+      → Finishes state asked writes k (a .descriptor) (a .given) (take n z′) s s′ o → Answers c a s s′ o
+  unfolding answerIn askedIn textDue textIn
+  answers-finished f F =
+      let T = settled-told S f in
+      let text = text-same (settled-stands S f) in
+      record {
+        answer = rw (e, T .is) (F .answer ∙ ap answer.State (T .state-is));
+        asked = rw (e, T .is) (F .told ∙ T .asked-is);
+        size = rw (e, T .is, ← T .writes-is, ← text) (F .size);
+        space = rw (e, T .is, ← T .writes-is, ← text) (F .space);
+      }
 
-    pub asks-finished : {state : PermissionState} {asked writes : Bool} {n : ℕ} {action : Action} {s′ : List ℕ} {a : Asked} → r ≡ settled-as.Decided state asked writes n action
-        → Finishes state asked writes d p (take n z′) s s′ a → Asks call m s d p cwd response m′ s′ a
-    asks-finished f F = record { answers = answers-finished e S f F; memory = rw e (S .memory) }
+module _ {call : Call} {link : Link} {l : Lent} {s : List ℕ} {a : About} {response : ℕ} where
+  pub asks-refused : {cause : Refusal} {r : Asked} → askCall call link l s a response ≡ refused cause → r ≡ refusedAsk cause
+      → Asks call link l s a response l s r
+  unfolding decidedActs
+  asks-refused e f = rw f (record { answers = answers-refused e refl; sends = sends-nothing (rw e) })
 
--- ---- the promises settle everything, so that any call has an outcome; c is what the call comes to
+  module _ {known : PromptResponse} (e : askCall call link l s a response ≡ settledOn call link l (a .descriptor) (a .given) (a .cwd) known)
+      {z : List ℕ} {l′ : Lent} {z′ : List ℕ} {r : Settled} (S : Settles call link l 0 (a .descriptor) (a .given) (a .cwd) known z l′ z′ r) where
+    pub asks-stopped : {cause : Refusal} {o : Asked} → r ≡ settled-as.Refused cause → o ≡ refusedAsk cause → Asks call link l s a response l′ s o
+    asks-stopped f g = rw g (record { answers = answers-refused (e ∙ settled-refused S f) refl; sends = stopped-sends e S f })
 
-abbrev pub resultOf : Result Decision → Descriptor → List ℕ → List ℕ → Asked
-resultOf c d p cwd = record { answer = answerIn c; asked = askedIn c; text = length (textDue c d p cwd) }
-
-pub answers-of : {c call : Result Decision} (d : Descriptor) (p cwd s : List ℕ) → call ≡ c → Answers call d p cwd s (begun (textDue c d p cwd) s) (resultOf c d p cwd)
-answers-of d p cwd s e = record { answer = rw e; asked = rw e; size = rw e; space = rw e }
-
-pub asks-of : (call : Call) (m s : List ℕ) (d : Descriptor) (p cwd : List ℕ) (response : ℕ) {c : Result Decision} → askCall call plain m s d p cwd response ≡ c
-    → Asks call m s d p cwd response (doActs m (actsIn c)) (begun (textDue c d p cwd) s) (resultOf c d p cwd)
-asks-of call m s d p cwd response e = record { answers = answers-of d p cwd s e; memory = rw e }
+    pub asks-finished : {state : PermissionState} {asked writes : Bool} {n k : ℕ} {s′ : List ℕ} {o : Asked} → r ≡ settled-as.Decided state asked writes n k
+        → Finishes state asked writes k (a .descriptor) (a .given) (take n z′) s s′ o → Asks call link l s a response l′ s′ o
+    asks-finished f F = record { answers = answers-finished e S f F; sends = rw (F .sent ∙ settled-words S f) (settled-sends e S) }
 
 -- ---- how long its text is
 
@@ -274,84 +332,93 @@ stands-short NoPath p cwd S = omega arith
 stands-short Path p cwd {n} {s} S =
     length-text Path p (resolve p cwd) (S .brief refl) (omega (arith, ap length (S .bytes refl), length-take-le n s (S .room), S .short))
 
-due-short : (call : Call) (numbers : Numbering) (d : Descriptor) (p cwd : List ℕ) (t : Table) (known : PromptResponse) (c : Result Decision)
-    → settled call numbers t d p cwd known ≡ c → length (textDue c d p cwd) ≤ textBytes
-unfolding textDue textIn
-due-short call numbers d p cwd t known (refused cause) e = omega arith
-due-short call numbers d p cwd t known (ok decision) e =
-    cut-short (decision .writes) _ (stands-short d p cwd (decided-stands call numbers t d p cwd known [] e))
+module _ (a : About) where
+  due-short : (call : Call) (numbers : Numbering) (t : Table) (known : PromptResponse) (c : Result Decision)
+      → settled call numbers t (a .descriptor) (a .given) (a .cwd) known ≡ c → length (textDue c a) ≤ textBytes
+  unfolding textDue textIn
+  due-short call numbers t known (refused cause) e = omega arith
+  due-short call numbers t known (ok decision) e =
+      cut-short (decision .writes) _ (stands-short (a .descriptor) (a .given) (a .cwd) (decided-stands call numbers t (a .descriptor) (a .given) (a .cwd) known [] e))
 
-step-short : {A : Type 0} (d : Descriptor) (p cwd : List ℕ) (a : Result A) (f : A → Result Decision)
-    → ((x : A) → length (textDue (f x) d p cwd) ≤ textBytes) → length (textDue (andThen a f) d p cwd) ≤ textBytes
-unfolding andThen
-step-short d p cwd (refused cause) f h = unfold textDue textIn in omega arith
-step-short d p cwd (ok x) f h = h x
+  step-short : {A : Type 0} (x : Result A) (f : A → Result Decision) → ((y : A) → length (textDue (f y) a) ≤ textBytes) → length (textDue (andThen x f) a) ≤ textBytes
+  unfolding andThen
+  step-short (refused cause) f h = unfold textDue textIn in omega arith
+  step-short (ok y) f h = h y
 
-pub ask-short : {call : Call} {m s : List ℕ} {d : Descriptor} {p cwd : List ℕ} {response : ℕ} {m′ s′ : List ℕ} {r : Asked}
-    → Asks call m s d p cwd response m′ s′ r → r .text ≤ textBytes
+pub text-short : {call : Call} {link : Link} {l : Lent} {s : List ℕ} {a : About} {response : ℕ} {l′ : Lent} {s′ : List ℕ} {r : Asked}
+    → Asks call link l s a response l′ s′ r → r .text ≤ textBytes
 unfolding askCall
-ask-short {call} {m} {s} {d} {p} {cwd} {response} A =
+text-short {call} {link} {l} {s} {a} {response} A =
     rw (A .answers .size)
-    (step-short d p cwd (tableIn m) _ (λ t.
-    step-short d p cwd (textSpace s) _ (λ space.
-    step-short d p cwd (linkIn 1 plain) _ (λ numbers.
-    step-short d p cwd (knownResponse (responseOf response)) _ (λ known. due-short call numbers d p cwd t known _ refl)))))
+    (step-short a (tableIn (l .memory)) _ (λ t.
+    step-short a (textSpace s) _ (λ space.
+    step-short a (roomIn 1 link (l .words)) _ (λ room.
+    step-short a (runIn link (l .number)) _ (λ numbers.
+    step-short a (knownResponse (responseOf response)) _ (λ known. due-short a call numbers t known _ refl))))))
 
 -- ---- revoke
 
-module _ {numbers : Numbering} {m m′ : List ℕ} {q : Query} {o : Outcome} (C : CarriesOut numbers (revokeDesc (tableOf m) q .act) m m′ o) where
-  pub revoke-refused : {cause : Refusal} → o ≡ Refused cause → RevokesQuery numbers q m m′ (answer.Refused cause)
+module _ (q : Query) {link : Link} {l l′ : Lent} {o : Sent} {a : Option Act} (f : a ≡ some (revokeAct q)) (P : Performs link a l 0 l′ o) where
+  performs-revoke : Performs link (revokeDesc (tableOf (l .memory)) q .act) l 0 l′ o
+  unfolding revokeDesc
+  performs-revoke = rw f at P
+
+  revoke-sends : Sends link (decidedActs (carriedOn link l (revokeDesc (tableOf (l .memory)) q))) l l′ (o .words)
+  revoke-sends = sends-recorded (carried-memory (revokeDesc (tableOf (l .memory)) q) performs-revoke) (carried-records (revokeDesc (tableOf (l .memory)) q) performs-revoke)
+
+  pub revoke-refused : {cause : Refusal} → o .outcome ≡ Refused cause → RevokesQuery link q l l′ (record { answer = answer.Refused cause; words = o .words })
   unfolding answerIn
-  revoke-refused e = record { answer = rw (carried-stops (revokeDesc (tableOf m) q) C e); memory = carried-memory _ C }
+  revoke-refused e = record { answer = rw (carried-stops (revokeDesc (tableOf (l .memory)) q) performs-revoke e); sends = revoke-sends }
 
-  pub revoke-state : {state : PermissionState} → o ≡ Done → state ≡ revokeDesc (tableOf m) q .state → RevokesQuery numbers q m m′ (answer.State state)
-  unfolding answerIn
-  revoke-state e f = record { answer = rw (carried-goes (revokeDesc (tableOf m) q) C e) (ap answer.State f); memory = carried-memory _ C }
+  -- the query asks the table that the act leaves
+  module _ (h : holds (l .memory) ≡ true) (i : isQuery q ≡ true) where
+    pub revoke-asks : holds (l′ .memory) ≡ true
+    unfolding revokeDesc fits
+    revoke-asks = rw (P .memory, f) (acted-carried (numbering link (l .number)) (l .memory) (some (revokeAct q)) h (revoke-fits q i) .holding)
 
--- the act of the code's action, whose path is lent beside it
-pub revoke-carries : (t : Table) (q : Query) {numbers : Numbering} {a : Option Act} {m m′ : List ℕ} {o : Outcome} → a ≡ some (revokeAct q)
-    → CarriesOut numbers a m m′ o → CarriesOut numbers (revokeDesc t q .act) m m′ o
-unfolding revokeDesc
-revoke-carries t q e C = rw e at C
-
--- the query asks the table that the act leaves
-module _ (q : Query) {numbers : Numbering} {m m′ : List ℕ} {o : Outcome} (h : holds m ≡ true) (f : isQuery q ≡ true)
-    (C : CarriesOut numbers (revokeDesc (tableOf m) q .act) m m′ o) where
-  pub revoke-asks : holds m′ ≡ true
-  unfolding revokeDesc fits
-  revoke-asks = carried-held C h (revoke-fits q f)
-
-  pub revoke-after : {state : PermissionState} → o ≡ Done → state ≡ queryDesc (tableOf m′) TreatAsPartialGranted q → state ≡ revokeDesc (tableOf m) q .state
-  unfolding revokeDesc fits actsOf applyActs
-  revoke-after e s =
-      let left = acted-carried numbers m (some (revokeAct q)) h (revoke-fits q f) in
-      s ∙ ap (λ (t : Table). queryDesc t TreatAsPartialGranted q) (ap tableOf (C .memory) ∙ rw (carried-done C e) (rw (carried-done C e) at (left .table)))
+    pub revoke-state : {state : PermissionState} → o .outcome ≡ Done → state ≡ queryDesc (tableOf (l′ .memory)) TreatAsPartialGranted q
+        → RevokesQuery link q l l′ (record { answer = answer.State state; words = o .words })
+    unfolding answerIn revokeDesc fits actsOf applyActs
+    revoke-state e s =
+        let left = acted-carried (numbering link (l .number)) (l .memory) (some (revokeAct q)) h (revoke-fits q i) in
+        let free : causeOn link l (some (revokeAct q)) ≡ none = outcome-done _ (sym (performs-revoke .outcome) ∙ e) in
+        let table : tableOf (l′ .memory) ≡ applyAct (tableOf (l .memory)) (revokeAct q) = ap tableOf (performs-revoke .memory) ∙ rw free (rw free at (left .table)) in
+        record {
+          answer = rw (carried-goes (revokeDesc (tableOf (l .memory)) q) performs-revoke e) (ap answer.State (s ∙ ap (λ (t : Table). queryDesc t TreatAsPartialGranted q) table));
+          sends = revoke-sends;
+        }
 
 -- the checking order of a revoke
-module _ (link : Link) (m : List ℕ) (d : Descriptor) (p cwd : List ℕ) where
-  pub revoke-no-table : holds m ≡ false → revokeCall link m d p cwd ≡ refused NoTable
+module _ (link : Link) (l : Lent) (a : About) where
+  pub revoke-no-table : holds (l .memory) ≡ false → revokeCall link l a ≡ refused NoTable
   unfolding revokeCall andThen
-  revoke-no-table h = rw (no-table m h)
+  revoke-no-table h = rw (no-table (l .memory) h)
 
-  module _ (h : holds m ≡ true) where
-    pub revoke-unlinked : {cause : Refusal} → linkIn 1 link ≡ refused cause → revokeCall link m d p cwd ≡ refused cause
+  module _ (h : holds (l .memory) ≡ true) where
+    pub revoke-short : lacksRoom 1 link (l .words) ≡ true → revokeCall link l a ≡ refused NoSpace
     unfolding revokeCall andThen
-    revoke-unlinked e = rw (a-table m h, e)
+    revoke-short e = rw (a-table (l .memory) h, room-short 1 link (l .words) e)
 
-    module _ {numbers : Numbering} (room : linkIn 1 link ≡ ok numbers) where
-      pub revoke-ungiven : {cause : Refusal} → given d p cwd ≡ refused cause → revokeCall link m d p cwd ≡ refused cause
+    pub revoke-unlinked : lacksRoom 1 link (l .words) ≡ false → lacksRun link ≡ true → revokeCall link l a ≡ refused refusal.Unknown
+    unfolding revokeCall andThen
+    revoke-unlinked e f = rw (a-table (l .memory) h, room-long 1 link (l .words) e, run-unknown link (l .number) f)
+
+    module _ (A : Admits 1 link (l .words)) where
+      pub revoke-ungiven : {cause : Refusal} → given (a .descriptor) (a .given) (a .cwd) ≡ refused cause → revokeCall link l a ≡ refused cause
       unfolding revokeCall andThen
-      revoke-ungiven g = rw (a-table m h, room, g)
+      revoke-ungiven g = rw (a-table (l .memory) h, room-long 1 link (l .words) (A .roomy), run-known link (l .number) (A .run), g)
 
-      pub revoke-given : (q : Query) → given d p cwd ≡ ok q → revokeCall link m d p cwd ≡ carriedOut numbers (tableOf m) (revokeDesc (tableOf m) q)
+      pub revoke-given : (q : Query) → given (a .descriptor) (a .given) (a .cwd) ≡ ok q
+          → revokeCall link l a ≡ carriedOn link l (revokeDesc (tableOf (l .memory)) q)
       unfolding revokeCall andThen
-      revoke-given q g = rw (a-table m h, room, g)
+      revoke-given q g = rw (a-table (l .memory) h, room-long 1 link (l .words) (A .roomy), run-known link (l .number) (A .run), g)
 
-module _ {m : List ℕ} {d : Descriptor} {p cwd : List ℕ} where
-  pub revokes-refused : {cause : Refusal} → revokeCall plain m d p cwd ≡ refused cause → Revokes m d p cwd m (answer.Refused cause)
-  unfolding answerIn actsIn doActs
-  revokes-refused e = record { answer = rw e; memory = rw e }
+module _ {link : Link} {l : Lent} {a : About} where
+  pub revokes-refused : {cause : Refusal} {r : Revoked} → revokeCall link l a ≡ refused cause → r ≡ refusedRevoke cause → Revokes link l a l r
+  unfolding answerIn decidedActs
+  revokes-refused e f = rw f (record { answer = rw e; sends = sends-nothing (rw e) })
 
-  pub revokes-query : {q : Query} {m′ : List ℕ} {a : Answer} → revokeCall plain m d p cwd ≡ carriedOut Plain (tableOf m) (revokeDesc (tableOf m) q)
-      → RevokesQuery Plain q m m′ a → Revokes m d p cwd m′ a
-  revokes-query e Q = record { answer = rw e (Q .answer); memory = rw e (Q .memory) }
+  pub revokes-query : {q : Query} {l′ : Lent} {r : Revoked}
+      → revokeCall link l a ≡ carriedOn link l (revokeDesc (tableOf (l .memory)) q)
+      → RevokesQuery link q l l′ r → Revokes link l a l′ r
+  revokes-query e Q = record { answer = rw e (Q .answer); sends = rw e (Q .sends) }

@@ -1,7 +1,5 @@
-pub mod DecisionLaws
-pub mod FittingLaws
-pub mod TextLaws
-pub mod ActionLaws
+pub mod ChangeLaws
 pub mod AskLaws
-pub mod QuestionLaws
 pub mod KeepLaws
+pub mod QuestionLaws
+pub mod PlainLaws

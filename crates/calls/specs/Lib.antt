@@ -1,4 +1,3 @@
-pub mod Decisions
-pub mod Texts
 pub mod Calls
-pub mod Asking
+pub mod Changes
+pub mod Steps

@@ -11,31 +11,19 @@ use Rattle.refusals.specs.declared.Refusal.{Refusal}
 use Rattle.refusals.specs.declared.Refusal.the-variants as refusal
 use Rattle.refusals.specs.Refusals.{when, firstCause, Result, refused, ok, andThen, unless}
 use Rattle.paths.proofs.ComponentLaws.{and-left}
-use Rattle.table.specs.declared.Numbering.{Numbering}
+use Rattle.link.specs.Linking.{roomIn, Numbering, runIn}
 use Rattle.table.specs.Tables.{Table}
-use Rattle.table.specs.Carrying.{Link, plain}
-use Rattle.table.specs.Calls.{tableIn, freshIn, linkIn}
-use Rattle.calls.specs.declared.PromptResponse.{PromptResponse}
+use Rattle.link.specs.declared.Link.{Link}
+use Rattle.link.specs.Sending.{Lent}
+use Rattle.table.specs.Calls.{tableIn, freshIn}
+use Rattle.deciding.specs.declared.PromptResponse.{PromptResponse}
 use Rattle.child.specs.declared.ChildUnaryPermissionArg.{ChildUnaryPermissionArg}
 use Rattle.child.specs.declared.ChildUnaryPermissionArg.the-variants.{Inherit, Granted, NotGranted, GrantedList}
-use Rattle.child.specs.declared.ChildMade.{ChildMade}
-use Rattle.child.specs.Arguments.{
-  argOf,
-  knownArg,
-  knownResponses,
-  Item,
-  listItems,
-  grantedItem,
-  itemsOf,
-  maxItems,
-  closeAt,
-  itemsFit,
-  areInOrder,
-  Arguments,
-  argumentsOf,
-}
+use Rattle.child.specs.declared.ChildSent.{ChildSent}
+use Rattle.items.specs.Items.{ItemList, knownResponses, Item, listItems, maxItems, closeAt}
+use Rattle.child.specs.Arguments.{argOf, knownArg, grantedItem, itemsOf, itemsFit, areInOrder, Arguments, argumentsOf}
 use Rattle.child.specs.Making.{Made, onward, then, allItems, createChild, completed}
-use Rattle.child.specs.Calls.{Creation, creation, childCall, askedIn, CreatesChild}
+use Rattle.child.specs.Calls.{Creation, creation, childCall, timesAsked, CreatesChild}
 use Rattle.child.proofs.ItemLaws.{item-once}
 use Rattle.child.proofs.CreatingLaws.{over-asked}
 
@@ -107,28 +95,29 @@ arguments-few code bytes ends responses =
     step-few (knownResponses responses) _ (λ known.
     order-few (areInOrder arg bytes ends responses) _ (λ h. items-few arg bytes ends known (order-fits arg bytes ends responses h))))
 
-step-asked : {A : Type 0} (a : Result A) (f : A → Result Creation) → ((x : A) → askedIn (f x) ≤ maxItems) → askedIn (andThen a f) ≤ maxItems
+step-asked : {A : Type 0} (a : Result A) (f : A → Result Creation) → ((x : A) → timesAsked (f x) ≤ maxItems) → timesAsked (andThen a f) ≤ maxItems
 unfolding andThen
-step-asked (refused cause) f h = unfold askedIn in omega arith
+step-asked (refused cause) f h = unfold timesAsked in omega arith
 step-asked (ok x) f h = h x
 
-args-asked : (numbers : Numbering) (t : Table) (cwd : List ℕ) (r : Result Arguments) → Few r → askedIn (andThen r (λ args. ok (creation numbers t cwd args))) ≤ maxItems
-unfolding andThen askedIn creation Few
+args-asked : (numbers : Numbering) (t : Table) (cwd : List ℕ) (r : Result Arguments) → Few r → timesAsked (andThen r (λ args. ok (creation numbers t cwd args))) ≤ maxItems
+unfolding andThen timesAsked creation Few
 args-asked numbers t cwd (refused cause) h = omega arith
 args-asked numbers t cwd (ok args) h = omega (arith, made-asked numbers t args cwd)
 
 created-asked : (numbers : Numbering) (t : Table) (code : ℕ) (bytes ends responses cwd : List ℕ)
-    → askedIn (andThen (argumentsOf code bytes ends responses) (λ args. ok (creation numbers t cwd args))) ≤ maxItems
+    → timesAsked (andThen (argumentsOf code bytes ends responses) (λ args. ok (creation numbers t cwd args))) ≤ maxItems
 created-asked numbers t code bytes ends responses cwd = args-asked numbers t cwd (argumentsOf code bytes ends responses) (arguments-few code bytes ends responses)
 
-pub call-asked : (link : Link) (m c : List ℕ) (code : ℕ) (bytes ends responses cwd : List ℕ) → askedIn (childCall link m c code bytes ends responses cwd) ≤ maxItems
+call-asked : (link : Link) (l : Lent) (c : List ℕ) (code : ℕ) (list : ItemList) (cwd : List ℕ) → timesAsked (childCall link l c code list cwd) ≤ maxItems
 unfolding childCall
-call-asked link m c code bytes ends responses cwd =
-    step-asked (tableIn m) _ (λ t.
+call-asked link l c code list cwd =
+    step-asked (tableIn (l .memory)) _ (λ t.
     step-asked (freshIn c) _ (λ empty.
-    step-asked (linkIn (length ends) link) _ (λ numbers.
-    created-asked numbers t code bytes ends responses cwd)))
+    step-asked (roomIn (length (list .ends)) link (l .words)) _ (λ room.
+    step-asked (runIn link (l .number)) _ (λ numbers.
+    created-asked numbers t code (list .bytes) (list .ends) (list .responses) cwd))))
 
-pub asked-few : {m c : List ℕ} {code : ℕ} {bytes ends responses cwd m′ c′ : List ℕ} {r : ChildMade}
-    → CreatesChild m c code bytes ends responses cwd m′ c′ r → r .asked ≤ maxItems
-asked-few {m} {c} {code} {bytes} {ends} {responses} {cwd} C = rw (C .creates .asked) (call-asked plain m c code bytes ends responses cwd)
+pub asked-few : {link : Link} {l : Lent} {c : List ℕ} {code : ℕ} {list : ItemList} {cwd : List ℕ} {l′ : Lent} {c′ : List ℕ} {r : ChildSent}
+    → CreatesChild link l c code list cwd l′ c′ r → r .made .asked ≤ maxItems
+asked-few {link} {l} {c} {code} {list} {cwd} C = rw (C .creates .asked) (call-asked link l c code list cwd)

@@ -13,7 +13,7 @@ use Rattle.refusals.specs.declared.Refusal.the-variants.{TableFull, Escalation}
 use Rattle.refusals.specs.Refusals.{Result, refused, ok}
 use Rattle.paths.specs.declared.Descriptor.the-variants.{Path}
 use Rattle.paths.specs.Giving.{queryOf}
-use Rattle.table.specs.declared.Numbering.{Numbering}
+use Rattle.link.specs.Linking.{Numbering}
 use Rattle.table.specs.declared.Kind.the-variants.{G}
 use Rattle.table.specs.Entries.{Entry, isGranted}
 use Rattle.table.specs.Tables.{Table, fresh, has, setBit, clearBit, granted}
@@ -22,10 +22,10 @@ use Rattle.table.specs.Memory.{tableOf, holds}
 use Rattle.table.proofs.ActLaws.{applied-append}
 use Rattle.table.proofs.KeepLaws.{same-table}
 use Rattle.walk.specs.declared.PermissionState.{PermissionState}
-use Rattle.calls.specs.declared.PromptResponse.{PromptResponse}
-use Rattle.calls.specs.Decisions.{Decision, grantAct, passes}
+use Rattle.deciding.specs.declared.PromptResponse.{PromptResponse}
+use Rattle.deciding.specs.Decisions.{Decision, grantAct, passes}
 use Rattle.child.specs.declared.ChildUnaryPermissionArg.the-variants.{Inherit, GrantedList}
-use Rattle.child.specs.Arguments.{listItems}
+use Rattle.items.specs.Items.{ItemList, listItems}
 use Rattle.child.specs.Making.{
   Made,
   refusedBy,
@@ -47,16 +47,17 @@ use Rattle.child.specs.Making.{
   completed,
   createChild,
 }
-use Rattle.table.specs.Carrying.{Link}
+use Rattle.link.specs.declared.Link.{Link}
+use Rattle.link.specs.Sending.{lent}
 use Rattle.child.specs.Calls.{childCall}
 use Rattle.child.proofs.MakingLaws.{then-stops, then-goes}
 
 -- ---- wherever the parent's table stands
 
-pub same-child : (m n c : List ℕ) → holds m ≡ true → holds n ≡ true → tableOf m ≡ tableOf n → (link : Link) (code : ℕ) (bytes ends responses cwd : List ℕ)
-    → childCall link m c code bytes ends responses cwd ≡ childCall link n c code bytes ends responses cwd
+pub same-child : (m n : List ℕ) → holds m ≡ true → holds n ≡ true → tableOf m ≡ tableOf n → (link : Link) (number : ℕ) (w c : List ℕ) (code : ℕ) (list : ItemList) (cwd : List ℕ)
+    → childCall link (lent m number w) c code list cwd ≡ childCall link (lent n number w) c code list cwd
 unfolding childCall
-same-child m n c h k e link code bytes ends responses cwd = rw (same-table m n h k e)
+same-child m n h k e link number w c code list cwd = rw (same-table m n h k e)
 
 -- ---- switches of the child's table u, step by step
 
@@ -67,7 +68,7 @@ after u made = applyActs u (made .grants)
 after-then : (u : Table) (a b : Made) → a .refused ≡ none → after u (then a b) ≡ after (after u a) b
 after-then u a b e = ap (after u) (then-goes a b e) ∙ applied-append u (a .grants) (b .grants)
 
--- a step that leaves the switches as they are, and one behind it that does
+-- a step that leaves the switches as they are, and one after it that does
 then-keeps : (u : Table) (a b : Made) (o : Option Refusal) → a .refused ≡ o → after u a .switches ≡ u .switches
     → (a .refused ≡ none → after (after u a) b .switches ≡ after u a .switches) → after u (then a b) .switches ≡ u .switches
 then-keeps u a b none e f g = ap (λ (t : Table). t .switches) (after-then u a b e) ∙ g e ∙ f

@@ -7,29 +7,36 @@ use mathlib.Core.Bool.{true, false}
 use native.Mathlib.Omega.{arith}
 use lib.ListN.{length}
 use Rattle.refusals.specs.declared.Refusal.{Refusal}
-use Rattle.refusals.specs.declared.Refusal.the-variants.{NoTable}
+use Rattle.refusals.specs.declared.Refusal.the-variants.{NoTable, NoSpace, Unknown}
 use Rattle.refusals.specs.Refusals.{Result, refused, ok, andThen}
-use Rattle.table.specs.declared.Numbering.{Numbering}
-use Rattle.table.specs.declared.Numbering.the-variants.{Plain}
 use Rattle.table.specs.declared.Outcome.{Outcome}
 use Rattle.table.specs.Tables.{Table, isTable}
 use Rattle.table.specs.Acts.{applyActs}
 use Rattle.table.specs.Memory.{tableBytes, tableOf, holds, put, doActs}
-use Rattle.table.specs.Carrying.{Link, plain, past, outcomeOf}
-use Rattle.table.specs.Calls.{linkIn}
+use Rattle.table.specs.Carrying.{outcomeOf}
+use Rattle.link.specs.declared.Link.{Link}
+use Rattle.link.specs.Linking.{lacksRoom, Numbering, numbering, lacksRun, past}
+use Rattle.link.proofs.LinkLaws.{room-short, room-long, run-unknown, run-known}
+use Rattle.link.specs.Sending.{Lent}
+use Rattle.link.specs.Steps.{Admits}
+use Rattle.link.proofs.SendingLaws.{sends-nothing, sends-recorded}
 use Rattle.table.proofs.TableLaws.{fresh-table}
 use Rattle.table.proofs.Puts.{valid-of, tableOf-put, holds-put}
 use Rattle.table.proofs.ActLaws.{acts-append, Acted, acted-none, acted-append}
-use Rattle.table.proofs.CallLaws.{no-table, a-table, fresh-short, fresh-long, room-plain}
+use Rattle.table.proofs.CallLaws.{no-table, a-table, fresh-short, fresh-long}
 use Rattle.child.specs.declared.ChildMade.{ChildMade}
+use Rattle.child.specs.declared.ChildSent.{ChildSent}
 use Rattle.child.specs.declared.ChildUnaryPermissionArg.{ChildUnaryPermissionArg}
 use Rattle.child.specs.declared.ChildUnaryPermissionArg.the-variants.{Inherit, Granted, NotGranted, GrantedList}
-use Rattle.child.specs.Arguments.{Item, Arguments, argOf, itemsOf, areInOrder, argumentsOf}
+use Rattle.items.specs.Items.{Item, itemList}
+use Rattle.child.specs.Arguments.{Arguments, argOf, itemsOf, areInOrder, argumentsOf}
 use Rattle.child.specs.Making.{Made, then, itemStep, allItems, takeOver, takeOverActs, firstChild, completed, createChild}
-use Rattle.child.specs.Calls.{Creation, creation, childCall, refusalIn, askedIn, actsIn, childLeft, childAfter, Creates, CreatesChild}
-use Rattle.child.specs.Steps.{madeRefused, Makes, afterItems, Completes}
+use Rattle.child.specs.Calls.{Creation, creation, childCall, refusalIn, timesAsked, childActs, childLeft, childAfter, Creates, CreatesChild}
+use Rattle.child.specs.Steps.{madeRefused, childRefused, Makes, afterItems, Completes, MakesSent, SendsItems}
 use Rattle.child.specs.declared.ArgRead.the-variants.{Arg}
-use Rattle.child.proofs.ArgumentLaws.{Known, in-order}
+use Rattle.items.proofs.ItemListLaws.{Known, all-known}
+use Rattle.items.specs.Steps.{areResponses}
+use Rattle.child.proofs.ArgumentLaws.{in-order}
 use Rattle.child.proofs.MakingLaws.{then-stops, then-goes, granting-asked, granting-acts}
 use Rattle.child.proofs.ItemLaws.{item-parent, item-child}
 
@@ -74,41 +81,47 @@ module _ (arg : ChildUnaryPermissionArg) (m c : List ℕ) {c₁ : List ℕ} (h :
 
 -- ---- the checking order
 
-module _ (link : Link) (m c : List ℕ) (code : ℕ) (bytes ends responses cwd : List ℕ) where
-  pub child-no-table : holds m ≡ false → childCall link m c code bytes ends responses cwd ≡ refused NoTable
+module _ (link : Link) (l : Lent) (c : List ℕ) (code : ℕ) (bytes ends responses cwd : List ℕ) where
+  pub child-no-table : holds (l .memory) ≡ false → childCall link l c code (itemList bytes ends responses) cwd ≡ refused NoTable
   unfolding childCall andThen
-  child-no-table h = rw (no-table m h)
+  child-no-table h = rw (no-table (l .memory) h)
 
-  module _ (h : holds m ≡ true) where
-    pub child-small : length c < tableBytes → childCall link m c code bytes ends responses cwd ≡ refused NoTable
+  module _ (h : holds (l .memory) ≡ true) where
+    pub child-small : length c < tableBytes → childCall link l c code (itemList bytes ends responses) cwd ≡ refused NoTable
     unfolding childCall andThen
-    child-small l = rw (a-table m h, fresh-short c l)
+    child-small short = rw (a-table (l .memory) h, fresh-short c short)
 
     module _ (long : tableBytes ≤ length c) where
-      pub child-unlinked : {cause : Refusal} → linkIn (length ends) link ≡ refused cause → childCall link m c code bytes ends responses cwd ≡ refused cause
+      pub child-short : lacksRoom (length ends) link (l .words) ≡ true → childCall link l c code (itemList bytes ends responses) cwd ≡ refused NoSpace
       unfolding childCall andThen
-      child-unlinked e = rw (a-table m h, fresh-long c long, e)
+      child-short e = rw (a-table (l .memory) h, fresh-long c long, room-short (length ends) link (l .words) e)
 
-      module _ {numbers : Numbering} (room : linkIn (length ends) link ≡ ok numbers) where
-        pub child-unknown : {cause : Refusal} → argumentsOf code bytes ends responses ≡ refused cause → childCall link m c code bytes ends responses cwd ≡ refused cause
+      pub child-unlinked : lacksRoom (length ends) link (l .words) ≡ false → lacksRun link ≡ true
+          → childCall link l c code (itemList bytes ends responses) cwd ≡ refused Unknown
+      unfolding childCall andThen
+      child-unlinked e f = rw (a-table (l .memory) h, fresh-long c long, room-long (length ends) link (l .words) e, run-unknown link (l .number) f)
+
+      module _ (A : Admits (length ends) link (l .words)) where
+        pub child-unknown : {cause : Refusal} → argumentsOf code bytes ends responses ≡ refused cause
+            → childCall link l c code (itemList bytes ends responses) cwd ≡ refused cause
         unfolding childCall andThen
-        child-unknown e = rw (a-table m h, fresh-long c long, room, e)
+        child-unknown e = rw (a-table (l .memory) h, fresh-long c long, room-long (length ends) link (l .words) (A .roomy), run-known link (l .number) (A .run), e)
 
         pub child-known : (args : Arguments) → argumentsOf code bytes ends responses ≡ ok args
-            → childCall link m c code bytes ends responses cwd ≡ ok (creation numbers (tableOf m) cwd args)
+            → childCall link l c code (itemList bytes ends responses) cwd ≡ ok (creation (numbering link (l .number)) (tableOf (l .memory)) cwd args)
         unfolding childCall andThen
-        child-known args e = rw (a-table m h, fresh-long c long, room, e)
+        child-known args e = rw (a-table (l .memory) h, fresh-long c long, room-long (length ends) link (l .words) (A .roomy), run-known link (l .number) (A .run), e)
 
 -- ---- what the call answers and leaves
 
 pub refused-creates : {call : Result Creation} {c : List ℕ} {cause : Refusal} {a : ChildMade} → call ≡ refused cause → a ≡ madeRefused cause 0 → Creates call c c a
-unfolding refusalIn askedIn childAfter outcomeOf
+unfolding refusalIn timesAsked childAfter outcomeOf
 refused-creates e f = rw f (record { outcome = rw e; asked = rw e; child = rw e })
 
-pub creates-refused : {m c : List ℕ} {code : ℕ} {bytes ends responses cwd : List ℕ} {cause : Refusal} {a : ChildMade}
-    → childCall plain m c code bytes ends responses cwd ≡ refused cause → a ≡ madeRefused cause 0 → CreatesChild m c code bytes ends responses cwd m c a
-unfolding actsIn doActs
-creates-refused e f = record { creates = refused-creates e f; parent = rw e }
+pub creates-refused : {link : Link} {l : Lent} {c : List ℕ} {code : ℕ} {bytes ends responses cwd : List ℕ} {cause : Refusal} {a : ChildSent}
+    → childCall link l c code (itemList bytes ends responses) cwd ≡ refused cause → a ≡ childRefused cause 0 0 → CreatesChild link l c code (itemList bytes ends responses) cwd l c a
+unfolding childActs
+creates-refused e f = rw f (record { creates = refused-creates e refl; sends = sends-nothing (rw e) })
 
 pub over-asked : (t u : Table) → takeOver t u .asked ≡ 0
 unfolding takeOver
@@ -149,7 +162,7 @@ pub record Ran (numbers : Numbering) (m c : List ℕ) (code : ℕ) (bytes ends r
   pub begun : c₁ ≡ put (firstChild (args .arg) (tableOf m)) c
   pub made : Makes (allItems numbers cwd (args .items) (tableOf m) (tableOf c₁)) m c₁ m′ c₂ r
 
-pub ran : (numbers : Numbering) (m c : List ℕ) (code : ℕ) (bytes ends-of responses cwd : List ℕ) {arg : ChildUnaryPermissionArg} {c₁ m′ c₂ : List ℕ} {r : ChildMade}
+ran : (numbers : Numbering) (m c : List ℕ) (code : ℕ) (bytes ends-of responses cwd : List ℕ) {arg : ChildUnaryPermissionArg} {c₁ m′ c₂ : List ℕ} {r : ChildMade}
     → holds m ≡ true → tableBytes ≤ length c → argOf code ≡ Arg arg → areInOrder arg bytes ends-of responses ≡ true → (K : Known responses)
     → c₁ ≡ put (firstChild arg (tableOf m)) c
     → Makes (allItems numbers cwd (itemsOf arg bytes ends-of (K .responses)) (tableOf m) (tableOf c₁)) m c₁ m′ c₂ r
@@ -165,10 +178,10 @@ module _ {numbers : Numbering} {m c : List ℕ} {code : ℕ} {bytes ends-of resp
   left : Left items m c₁
   left = items-left numbers cwd (args .items) m c₁ (R .holding) (first-held (args .arg) m c (R .holding) (R .long) (R .begun))
 
-  pub items-parent : holds m′ ≡ true
+  items-parent : holds m′ ≡ true
   items-parent = rw (R .made .parent) (left .parent .holding)
 
-  pub items-child : holds c₂ ≡ true
+  items-child : holds c₂ ≡ true
   items-child = rw (R .made .child) (left .child .holding)
 
   -- the rest is made of the tables that the items left
@@ -180,18 +193,18 @@ module _ {numbers : Numbering} {m c : List ℕ} {code : ℕ} {bytes ends-of resp
   made-is = rw (rest-is, ← first-is (args .arg) m c (R .holding) (R .long) (R .begun))
 
   -- the acts on the parent are those of the items
-  pub acts-are : {call : Result Creation} → call ≡ ok (creation numbers (tableOf m) cwd args) → actsIn call ≡ items .acts
-  unfolding actsIn creation
+  acts-are : {call : Result Creation} → call ≡ ok (creation numbers (tableOf m) cwd args) → childActs call ≡ items .acts
+  unfolding childActs creation
   acts-are call =
       let E = ends items (takeOver (tableOf m′) (tableOf c₂)) (items .refused) refl (over-asked (tableOf m′) (tableOf c₂)) (over-acts (tableOf m′) (tableOf c₂)) in
       rw call (ap (λ (x : Made). x .acts) made-is ∙ E .acts)
 
-  pub parent-by : {call : Result Creation} → call ≡ ok (creation numbers (tableOf m) cwd args) → m′ ≡ doActs m (actsIn call)
+  parent-by : {call : Result Creation} → call ≡ ok (creation numbers (tableOf m) cwd args) → m′ ≡ doActs m (childActs call)
   parent-by call = R .made .parent ∙ ap (doActs m) (sym (acts-are call))
 
-  pub creates-by : {call : Result Creation} {c₃ : List ℕ} {a : ChildMade} → call ≡ ok (creation numbers (tableOf m) cwd args)
+  creates-by : {call : Result Creation} {c₃ : List ℕ} {a : ChildMade} → call ≡ ok (creation numbers (tableOf m) cwd args)
       → Completes (afterItems (r .outcome) (takeOver (tableOf m′) (tableOf c₂))) (r .asked) c₂ c₃ a → Creates call c c₃ a
-  unfolding refusalIn askedIn childAfter creation
+  unfolding refusalIn timesAsked childAfter creation
   creates-by call C =
       let rest = takeOver (tableOf m′) (tableOf c₂) in
       let E = ends items rest (items .refused) refl (over-asked (tableOf m′) (tableOf c₂)) (over-acts (tableOf m′) (tableOf c₂)) in
@@ -209,10 +222,39 @@ module _ {numbers : Numbering} {m c : List ℕ} {code : ℕ} {bytes ends-of resp
             ∙ ap (childLeft (createChild numbers (tableOf m) args cwd .refused)) (grants ∙ ap (λ (l : List ℕ). doActs l (createChild numbers (tableOf m) args cwd .grants)) (R .begun)) ∙ rw call;
       }
 
--- a plain call
-pub creates : {m c : List ℕ} {code : ℕ} {bytes ends-of responses cwd : List ℕ} {args : Arguments} {c₁ m′ c₂ : List ℕ} {r : ChildMade}
-    → Ran Plain m c code bytes ends-of responses cwd args c₁ m′ c₂ r → {c₃ : List ℕ} {a : ChildMade}
-    → Completes (afterItems (r .outcome) (takeOver (tableOf m′) (tableOf c₂))) (r .asked) c₂ c₃ a → CreatesChild m c code bytes ends-of responses cwd m′ c₃ a
-creates {m} {c} {code} {bytes} {ends-of} {responses} {cwd} {args} R C =
-    let call = child-known plain m c code bytes ends-of responses cwd (R .holding) (R .long) (room-plain _) args (R .read) in
-    record { creates = creates-by R call C; parent = parent-by R call }
+-- ---- the whole call
+
+-- a call that has come through its items, by what they sent
+pub record Through (link : Link) (l : Lent) (c : List ℕ) (code : ℕ) (bytes ends responses cwd c₁ : List ℕ) (l′ : Lent) (c₂ : List ℕ) (r : ChildSent) : Type 0 where
+  pub args : Arguments
+  pub ran : Ran (numbering link (l .number)) (l .memory) c code bytes ends responses cwd args c₁ (l′ .memory) c₂ (r .made)
+  pub admitted : Admits (length ends) link (l .words)
+  pub sent : MakesSent (allItems (numbering link (l .number)) cwd (args .items) (tableOf (l .memory)) (tableOf c₁)) link l c₁ 0 l′ c₂ r
+
+pub through : (link : Link) (l : Lent) (c : List ℕ) (code : ℕ) (bytes ends-of responses cwd : List ℕ) {arg : ChildUnaryPermissionArg} {c₁ : List ℕ} {l′ : Lent} {c₂ : List ℕ} {r : ChildSent}
+    → holds (l .memory) ≡ true → tableBytes ≤ length c → argOf code ≡ Arg arg → areInOrder arg bytes ends-of responses ≡ true → areResponses responses ≡ true
+    → Admits (length ends-of) link (l .words) → c₁ ≡ put (firstChild arg (tableOf (l .memory))) c
+    → SendsItems cwd (itemsOf arg bytes ends-of) responses link l c₁ l′ c₂ r → Through link l c code bytes ends-of responses cwd c₁ l′ c₂ r
+through link l c code bytes ends-of responses cwd {arg} h long a o known A b S =
+    let K = all-known responses known in
+    let sent = S (K .responses) (K .are) in
+    record {
+      args = record { arg = arg; items = itemsOf arg bytes ends-of (K .responses) };
+      ran = ran (numbering link (l .number)) (l .memory) c code bytes ends-of responses cwd h long a o K b (sent .makes);
+      admitted = A;
+      sent = sent;
+    }
+
+-- both memories then hold tables
+pub through-held : {link : Link} {l : Lent} {c : List ℕ} {code : ℕ} {bytes ends-of responses cwd c₁ c₂ : List ℕ} {l′ : Lent} {r : ChildSent}
+    → Through link l c code bytes ends-of responses cwd c₁ l′ c₂ r → (holds (l′ .memory) ≡ true) × (holds c₂ ≡ true)
+through-held T = (items-parent (T .ran), items-child (T .ran))
+
+pub creates : {link : Link} {l : Lent} {c : List ℕ} {code : ℕ} {bytes ends-of responses cwd c₁ c₂ : List ℕ} {l′ : Lent} {r : ChildSent}
+    → Through link l c code bytes ends-of responses cwd c₁ l′ c₂ r
+    → {c₃ : List ℕ} {a : ChildMade} → Completes (afterItems (r .made .outcome) (takeOver (tableOf (l′ .memory)) (tableOf c₂))) (r .made .asked) c₂ c₃ a
+    → CreatesChild link l c code (itemList bytes ends-of responses) cwd l′ c₃ (record { made = a; words = r .words })
+creates {link} {l} {c} {code} {bytes} {ends-of} {responses} {cwd} T C =
+    let R = T .ran in
+    let call = child-known link l c code bytes ends-of responses cwd (R .holding) (R .long) (T .admitted) (T .args) (R .read) in
+    record { creates = creates-by R call C; sends = sends-recorded (parent-by R call) (rw (← acts-are R call) at (T .sent .records)) }

@@ -13,33 +13,34 @@ use Rattle.paths.specs.declared.Descriptor.the-variants.{NoPath, Path}
 use Rattle.paths.specs.Resolving.{resolve}
 use Rattle.paths.specs.Giving.{Query, queryOf}
 use Rattle.paths.proofs.GivingLaws.{Stands}
-use Rattle.table.specs.declared.Action.{Action}
-use Rattle.table.specs.declared.Numbering.{Numbering}
-use Rattle.table.specs.declared.Numbering.the-variants.{Plain}
 use Rattle.table.specs.declared.Outcome.{Outcome}
 use Rattle.table.specs.declared.Outcome.the-variants as outcome
 use Rattle.table.specs.Tables.{Table}
-use Rattle.table.specs.Acts.{Act, applyActs}
+use Rattle.table.specs.Acts.{applyActs}
 use Rattle.table.specs.Memory.{tableOf, holds, doActs}
-use Rattle.table.specs.Carrying.{past, outcomeOf}
+use Rattle.table.specs.Carrying.{outcomeOf}
 use Rattle.table.proofs.ActLaws.{acts-append, Acted, acted-none, outcome-done, outcome-refused}
+use Rattle.link.specs.declared.Link.{Link}
+use Rattle.link.specs.Linking.{Numbering, numbering, past}
+use Rattle.link.specs.Sending.{Lent}
 use Rattle.walk.specs.declared.PermissionState.{PermissionState}
-use Rattle.calls.specs.declared.PromptResponse.{PromptResponse}
-use Rattle.calls.specs.declared.ResponseRead.the-variants as response-read
-use Rattle.calls.specs.declared.Call.the-variants.{Check}
+use Rattle.deciding.specs.declared.PromptResponse.{PromptResponse}
+use Rattle.deciding.specs.declared.ResponseRead.the-variants as response-read
+use Rattle.deciding.specs.declared.Call.the-variants.{Check}
 use Rattle.calls.specs.declared.Settled.{Settled}
 use Rattle.calls.specs.declared.Settled.the-variants as settled-as
-use Rattle.calls.specs.Decisions.{responseOf, Decision}
+use Rattle.deciding.specs.Decisions.{responseOf, Decision}
 use Rattle.calls.specs.Calls.{settled, Settles}
 use Rattle.calls.proofs.AskLaws.{settled-refused, settled-told, settled-stands, decided-stands}
 use Rattle.calls.proofs.KeepLaws.{settled-acted}
 use Rattle.child.specs.declared.ChildMade.{ChildMade}
 use Rattle.child.specs.declared.ChildUnaryPermissionArg.{ChildUnaryPermissionArg}
-use Rattle.child.specs.declared.ChildUnaryPermissionArg.the-variants.{Inherit, Granted, NotGranted, GrantedList}
-use Rattle.child.specs.Arguments.{knownResponses, Item, listItems, grantedItem, itemsOf, closeAt}
+use Rattle.child.specs.declared.ChildUnaryPermissionArg.the-variants.{Inherit, Granted, NotGranted}
+use Rattle.items.specs.Items.{knownResponses, Item, listItems, closeAt}
+use Rattle.child.specs.Arguments.{grantedItem, itemsOf}
 use Rattle.child.specs.Making.{Made, nothing, then, countOf, passedOn, checked, itemBy, itemStep, allItems, onward}
 use Rattle.child.specs.Steps.{madeDone, madeRefused, Makes, MakesChild}
-use Rattle.child.proofs.ArgumentLaws.{drop-next, known-drop, closing-next}
+use Rattle.items.proofs.ItemListLaws.{drop-next, known-drop, closing-next}
 use Rattle.child.proofs.MakingLaws.{then-stops, then-goes, passed-asked, pass-acted, item-acts, item-grants}
 
 -- ---- one item
@@ -57,23 +58,23 @@ item-asked : (decision : Decision) (q : Query) (u : Table) → itemBy (ok decisi
 unfolding itemBy checked onward
 item-asked decision q u = rw (passed-asked (decision .state) q u) (omega arith)
 
-module _ {numbers : Numbering} {d : Descriptor} {p cwd : List ℕ} {response : PromptResponse} {m s m′ s′ : List ℕ} {r : Settled}
-    (S : Settles Check numbers m d p cwd response s m′ s′ r) where
+module _ {link : Link} {l : Lent} {at : ℕ} {d : Descriptor} {p cwd : List ℕ} {response : PromptResponse} {s : List ℕ} {l′ : Lent} {s′ : List ℕ} {r : Settled}
+    (S : Settles Check link l at d p cwd response s l′ s′ r) where
   -- the parent's check is refused
   pub item-refused : {cause : Refusal} (c : List ℕ) {a : ChildMade} → r ≡ settled-as.Refused cause → a ≡ madeRefused cause 0
-      → Makes (itemStep numbers cwd (record { descriptor = d; given = p; response = response }) (tableOf m) (tableOf c)) m c m′ c a
+      → Makes (itemStep (numbering link (l .number)) cwd (record { descriptor = d; given = p; response = response }) (tableOf (l .memory)) (tableOf c)) (l .memory) c (l′ .memory) c a
   unfolding itemStep itemBy outcomeOf doActs
   item-refused c e f = rw f (record {
     outcome = rw (settled-refused S e);
     asked = rw (settled-refused S e);
-    parent = S .memory ∙ ap (doActs m) (sym (item-acts (settled Check numbers (tableOf m) d p cwd response) _ (tableOf c)));
+    parent = S .memory ∙ ap (doActs (l .memory)) (sym (item-acts (settled Check (numbering link (l .number)) (tableOf (l .memory)) d p cwd response) _ (tableOf c)));
     child = rw (settled-refused S e);
   })
 
   -- it comes to an end, and what passes is granted
-  pub item-made : {state : PermissionState} {asked writes : Bool} {n : ℕ} {c c′ : List ℕ} {o : Outcome} {k : ℕ} {action : Action} → r ≡ settled-as.Decided state asked writes n action
+  pub item-made : {state : PermissionState} {asked writes : Bool} {n : ℕ} {c c′ : List ℕ} {o : Outcome} {k : ℕ} {end : ℕ} → r ≡ settled-as.Decided state asked writes n end
       → MakesChild (passedOn state (queryOf d (take n s′)) (tableOf c)) c c′ o → k ≡ countOf asked
-      → Makes (itemStep numbers cwd (record { descriptor = d; given = p; response = response }) (tableOf m) (tableOf c)) m c m′ c′ (record { outcome = o; asked = k })
+      → Makes (itemStep (numbering link (l .number)) cwd (record { descriptor = d; given = p; response = response }) (tableOf (l .memory)) (tableOf c)) (l .memory) c (l′ .memory) c′ (record { outcome = o; asked = k })
   unfolding itemStep
   item-made {c = c} e M f =
       let T = settled-told S e in
@@ -82,8 +83,8 @@ module _ {numbers : Numbering} {d : Descriptor} {p cwd : List ℕ} {response : P
       record {
         outcome = P .outcome ∙ ap outcomeOf (sym (ap (λ (x : Result Decision). itemBy x (queryOf d (resolve p cwd)) (tableOf c) .refused) (T .is) ∙ item-outcome (T .decision) _ (tableOf c)));
         asked = f ∙ ap countOf (T .asked-is) ∙ sym (ap (λ (x : Result Decision). itemBy x (queryOf d (resolve p cwd)) (tableOf c) .asked) (T .is) ∙ item-asked (T .decision) _ (tableOf c));
-        parent = S .memory ∙ ap (doActs m) (sym (item-acts (settled Check numbers (tableOf m) d p cwd response) _ (tableOf c)));
-        child = P .child ∙ ap (doActs c) (sym (item-grants (settled Check numbers (tableOf m) d p cwd response) _ (tableOf c) (T .is)));
+        parent = S .memory ∙ ap (doActs (l .memory)) (sym (item-acts (settled Check (numbering link (l .number)) (tableOf (l .memory)) d p cwd response) _ (tableOf c)));
+        child = P .child ∙ ap (doActs c) (sym (item-grants (settled Check (numbering link (l .number)) (tableOf (l .memory)) d p cwd response) _ (tableOf c) (T .is)));
       }
 
 -- ---- what memory has that an item left
@@ -238,11 +239,6 @@ unfolding counted listItems allItems outcomeOf doActs
 going-done {ends = ends} {m = m} {c = c} {asked = asked} G l e known k =
     G .goes known k m c _ (rw (e, drop-of-length-le ends l) (record { outcome = refl; asked = omega arith; parent = refl; child = refl }))
 
--- a plain call numbers no act
-pub plain-past : (acts : List Act) → Plain ≡ past Plain acts
-unfolding past
-plain-past acts = refl
-
 -- ---- the items of any argument
 
 module _ (numbers : Numbering) {arg : ChildUnaryPermissionArg} (cwd bytes ends : List ℕ) (known : List PromptResponse) {m c : List ℕ} {a : ChildMade} where
@@ -274,10 +270,3 @@ pub all-one : (numbers : Numbering) {arg : ChildUnaryPermissionArg} (cwd bytes e
 unfolding itemsOf grantedItem allItems
 all-one numbers cwd bytes ends responses known g h k e A =
     rw (g, known-drop responses known 0 k h e) (makes-alone _ _ refl A)
-
--- a list
-pub all-list : (numbers : Numbering) {arg : ChildUnaryPermissionArg} (cwd bytes ends : List ℕ) (known : List PromptResponse) {m c m′ c′ : List ℕ} {r : ChildMade} → arg ≡ GrantedList
-    → Makes (allItems numbers cwd (listItems bytes 0 ends known) (tableOf m) (tableOf c)) m c m′ c′ r
-    → Makes (allItems numbers cwd (itemsOf arg bytes ends known) (tableOf m) (tableOf c)) m c m′ c′ r
-unfolding itemsOf
-all-list numbers cwd bytes ends known g A = rw g A

@@ -13,22 +13,24 @@ use Rattle.refusals.specs.declared.Refusal.the-variants.{NoTable}
 use Rattle.refusals.specs.Refusals.{Result, refused, ok, andThen}
 use Rattle.refusals.proofs.CauseLaws.{no-cause-head, unless-ok}
 use Rattle.paths.proofs.ComponentLaws.{and-left, and-right}
-use Rattle.table.specs.declared.Numbering.the-variants.{Plain}
 use Rattle.table.specs.Entries.{Entry, isGranted}
 use Rattle.table.specs.Tables.{Table, fresh, isEntry, every, isTable}
 use Rattle.table.specs.Acts.{Act, insert, keptUnless, without, isAct, applyAct, applyActs}
 use Rattle.table.specs.Memory.{tableBytes, tableOf, holds, put, doActs}
-use Rattle.table.specs.Carrying.{plain}
-use Rattle.table.specs.Calls.{freshIn, linkIn}
+use Rattle.link.specs.declared.Link.{Link}
+use Rattle.link.specs.Linking.{roomIn, Numbering, runIn}
+use Rattle.link.specs.Sending.{Lent}
+use Rattle.items.specs.Items.{ItemList}
+use Rattle.table.specs.Calls.{tableIn, freshIn}
 use Rattle.table.proofs.TableLaws.{valid-parts, fresh-table}
 use Rattle.table.proofs.Puts.{valid-of, long-of, tableOf-put, holds-put}
 use Rattle.table.proofs.ActLaws.{Acted, acted-none, acted-append}
 use Rattle.table.proofs.CallLaws.{a-table}
 use Rattle.table.proofs.KeepLaws.{Keeps, acted-keeps, step-acted}
-use Rattle.child.specs.declared.ChildMade.{ChildMade}
+use Rattle.child.specs.declared.ChildSent.{ChildSent}
 use Rattle.child.specs.Arguments.{Arguments, argumentsOf}
 use Rattle.child.specs.Making.{Made, then, grantedBy, granting, allItems, inserts, reinserts, takeOverActs, takeOver, firstChild, completed, createChild}
-use Rattle.child.specs.Calls.{Creation, creation, childCall, actsIn, childLeft, childAfter, CreatesChild}
+use Rattle.child.specs.Calls.{Creation, creation, childCall, childActs, childLeft, childAfter, CreatesChild}
 use Rattle.child.proofs.MakingLaws.{then-stops, then-goes, grant-acted, grant-one}
 use Rattle.child.proofs.TakeOverLaws.{switches-fit}
 use Rattle.child.proofs.CreatingLaws.{Left, left-then, items-left, over-acts, first-table}
@@ -91,12 +93,12 @@ over-acted m c h k = record {
     over-none : (t u : Table) → granting (takeOverActs t u) u .acts ≡ []
     over-none t u = over-acts t u
 
-created : (m c cwd : List ℕ) (args : Arguments) → holds m ≡ true → holds c ≡ true
-    → Left (completed (allItems Plain cwd (args .items) (tableOf m) (tableOf c)) (tableOf m) (tableOf c)) m c
+created : (numbers : Numbering) (m c cwd : List ℕ) (args : Arguments) → holds m ≡ true → holds c ≡ true
+    → Left (completed (allItems numbers cwd (args .items) (tableOf m) (tableOf c)) (tableOf m) (tableOf c)) m c
 unfolding completed
-created m c cwd args h k =
-    let items = allItems Plain cwd (args .items) (tableOf m) (tableOf c) in
-    let L = items-left Plain cwd (args .items) m c h k in
+created numbers m c cwd args h k =
+    let items = allItems numbers cwd (args .items) (tableOf m) (tableOf c) in
+    let L = items-left numbers cwd (args .items) m c h k in
     let rest = over-acted (doActs m (items .acts)) (doActs c (items .grants)) (L .parent .holding) (L .child .holding) in
     left-then items _ (items .refused) refl L (rw (L .parent .table, L .child .table) at rest)
 
@@ -105,42 +107,46 @@ unfolding freshIn
 long-by c e = ltb-false _ _ (no-cause-head _ NoTable [] (unless-ok _ fresh e .0))
 
 -- a call that comes to its items, over the child's first memory
-module _ (m c cwd : List ℕ) (args : Arguments) (h : holds m ≡ true) (long : tableBytes ≤ length c) where
+module _ (numbers : Numbering) (m c cwd : List ℕ) (args : Arguments) (h : holds m ≡ true) (long : tableBytes ≤ length c) where
   abbrev first : List ℕ
   first = put (firstChild (args .arg) (tableOf m)) c
 
   first-holds : holds first ≡ true
   first-holds = holds-put (firstChild (args .arg) (tableOf m)) c (first-table (args .arg) (tableOf m) (valid-of m h)) long
 
-  both : Left (createChild Plain (tableOf m) args cwd) m first
+  both : Left (createChild numbers (tableOf m) args cwd) m first
   unfolding createChild
-  both = rw (tableOf-put (firstChild (args .arg) (tableOf m)) c) at (created m first cwd args h first-holds)
+  both = rw (tableOf-put (firstChild (args .arg) (tableOf m)) c) at (created numbers m first cwd args h first-holds)
 
-no-acts : (cause : Refusal) → actsIn (refused cause) ≡ []
-unfolding actsIn
+no-acts : (cause : Refusal) → childActs (refused cause) ≡ []
+unfolding childActs
 no-acts cause = refl
 
-made-acted : (m c cwd : List ℕ) (args : Arguments) → holds m ≡ true → tableBytes ≤ length c → Acted m (actsIn (ok (creation Plain (tableOf m) cwd args)))
-unfolding actsIn creation
-made-acted m c cwd args h long = both m c cwd args h long .parent
+made-acted : (numbers : Numbering) (m c cwd : List ℕ) (args : Arguments) → holds m ≡ true → tableBytes ≤ length c
+    → Acted m (childActs (ok (creation numbers (tableOf m) cwd args)))
+unfolding childActs creation
+made-acted numbers m c cwd args h long = both numbers m c cwd args h long .parent
 
 -- ---- by the promise
 
-module _ (m c : List ℕ) (code : ℕ) (bytes ends responses cwd : List ℕ) (h : holds m ≡ true) where
-  parent-acted : Acted m (actsIn (childCall plain m c code bytes ends responses cwd))
-  unfolding childCall linkIn
+module _ (link : Link) (l : Lent) (c : List ℕ) (code : ℕ) (list : ItemList) (cwd : List ℕ) (h : holds (l .memory) ≡ true) where
+  parent-acted : Acted (l .memory) (childActs (childCall link l c code list cwd))
+  unfolding childCall
   parent-acted =
-      rw (a-table m h)
+      rw (a-table (l .memory) h)
       (unfold andThen in
-      step-acted actsIn no-acts m (freshIn c) _ h (λ empty e.
-      step-acted actsIn no-acts m (argumentsOf code bytes ends responses) _ h (λ args f. made-acted m c cwd args h (long-by c e))))
+      step-acted childActs no-acts (l .memory) (freshIn c) _ h (λ empty e.
+      step-acted childActs no-acts (l .memory) (roomIn (length (list .ends)) link (l .words)) _ h (λ room g.
+      step-acted childActs no-acts (l .memory) (runIn link (l .number)) _ h (λ numbers k.
+      step-acted childActs no-acts (l .memory) (argumentsOf code (list .bytes) (list .ends) (list .responses)) _ h (λ args f.
+      made-acted numbers (l .memory) c cwd args h (long-by c e))))))
 
-  module _ {m′ c′ : List ℕ} {r : ChildMade} (C : CreatesChild m c code bytes ends responses cwd m′ c′ r) where
-    pub parent-held : holds m′ ≡ true
-    parent-held = rw (C .parent) (parent-acted .holding)
+  module _ {l′ : Lent} {c′ : List ℕ} {r : ChildSent} (C : CreatesChild link l c code list cwd l′ c′ r) where
+    pub parent-held : holds (l′ .memory) ≡ true
+    parent-held = rw (C .sends .memory) (parent-acted .holding)
 
-    pub parent-keeps : Keeps (tableOf m .marks) (tableOf m′ .marks)
-    parent-keeps = rw (C .parent) (acted-keeps h parent-acted)
+    pub parent-keeps : Keeps (tableOf (l .memory) .marks) (tableOf (l′ .memory) .marks)
+    parent-keeps = rw (C .sends .memory) (acted-keeps h parent-acted)
 
 -- the child's memory, whether the call is refused on the way or not
 left-held : (o : Option Refusal) (c : List ℕ) → holds c ≡ true → holds (childLeft o c) ≡ true
@@ -148,25 +154,36 @@ unfolding childLeft
 left-held none c h = h
 left-held (some cause) c h = holds-put fresh c fresh-table (long-of c h)
 
-module _ (m c : List ℕ) (code : ℕ) (bytes ends responses cwd : List ℕ) (h : holds m ≡ true) where
-  child-by : (f : Result Table) (a : Result Arguments) → freshIn c ≡ f → {s : Creation}
-      → andThen f (λ empty. andThen a (λ args. ok (creation Plain (tableOf m) cwd args))) ≡ ok s
-      → holds (childLeft (s .made .refused) (doActs (put (s .first) c) (s .made .grants))) ≡ true
-  unfolding andThen
-  child-by (refused cause) a e q = let z : _≡_ {A = ℕ} 0 1 = cc in absurd (omega arith)
-  child-by (ok t) (refused cause) e q = let z : _≡_ {A = ℕ} 0 1 = cc in absurd (omega arith)
-  child-by (ok t) (ok args) e {s} q =
-      let made : creation Plain (tableOf m) cwd args ≡ s = cc in
-      subst (λ (x : Creation). holds (childLeft (x .made .refused) (doActs (put (x .first) c) (x .made .grants))) ≡ true) made
-      (unfold creation in left-held (createChild Plain (tableOf m) args cwd .refused) _ (both m c cwd args h (long-by c e) .child .holding))
+-- a step that is refused makes no child
+data ChildHeld (c : List ℕ) : Result Creation → Type 0 where
+  not-made : {cause : Refusal} → ChildHeld c (refused cause)
+  made : {s : Creation} → holds (childLeft (s .made .refused) (doActs (put (s .first) c) (s .made .grants))) ≡ true → ChildHeld c (ok s)
 
-  child-call : {s : Creation} → childCall plain m c code bytes ends responses cwd ≡ ok s
-      → andThen (freshIn c) (λ empty. andThen (argumentsOf code bytes ends responses) (λ args. ok (creation Plain (tableOf m) cwd args))) ≡ ok s
-  unfolding childCall andThen linkIn
-  child-call e = rw (a-table m h) at e
+step-held : {A : Type 0} (c : List ℕ) (a : Result A) (f : A → Result Creation) → ((x : A) → a ≡ ok x → ChildHeld c (f x)) → ChildHeld c (andThen a f)
+unfolding andThen
+step-held c (refused cause) f h = not-made
+step-held c (ok x) f h = h x refl
+
+held-made : {c : List ℕ} {r : Result Creation} (s : Creation) → ChildHeld c r → r ≡ ok s → holds (childLeft (s .made .refused) (doActs (put (s .first) c) (s .made .grants))) ≡ true
+held-made s not-made e = let z : _≡_ {A = ℕ} 0 1 = cc in absurd (omega arith)
+held-made {c} s (made {s = x} h) e =
+    let same : x ≡ s = cc in
+    subst (λ (y : Creation). holds (childLeft (y .made .refused) (doActs (put (y .first) c) (y .made .grants))) ≡ true) same h
+
+module _ (link : Link) (l : Lent) (c : List ℕ) (code : ℕ) (list : ItemList) (cwd : List ℕ) (h : holds (l .memory) ≡ true) where
+  child-made : ChildHeld c (childCall link l c code list cwd)
+  unfolding childCall
+  child-made =
+      step-held c (tableIn (l .memory)) _ (λ t e.
+      step-held c (freshIn c) _ (λ empty f.
+      step-held c (roomIn (length (list .ends)) link (l .words)) _ (λ room g.
+      step-held c (runIn link (l .number)) _ (λ numbers k.
+      step-held c (argumentsOf code (list .bytes) (list .ends) (list .responses)) _ (λ args j.
+      let table : tableOf (l .memory) ≡ t = cc (a-table (l .memory) h) in
+      made (rw (← table) (unfold creation in left-held (createChild numbers (tableOf (l .memory)) args cwd .refused) _ (both numbers (l .memory) c cwd args h (long-by c f) .child .holding))))))))
 
   -- it holds a table, unless the call is refused before any item
-  pub child-held : {s : Creation} {m′ c′ : List ℕ} {r : ChildMade} → childCall plain m c code bytes ends responses cwd ≡ ok s
-      → CreatesChild m c code bytes ends responses cwd m′ c′ r → holds c′ ≡ true
+  pub child-held : {s : Creation} {l′ : Lent} {c′ : List ℕ} {r : ChildSent} → childCall link l c code list cwd ≡ ok s
+      → CreatesChild link l c code list cwd l′ c′ r → holds c′ ≡ true
   unfolding childAfter
-  child-held e C = rw (C .creates .child, e) (child-by (freshIn c) (argumentsOf code bytes ends responses) refl (child-call e))
+  child-held e C = rw (C .creates .child, e) (held-made _ child-made e)

@@ -3,6 +3,8 @@ pub mod MakingLaws
 pub mod ItemLaws
 pub mod TakeOverLaws
 pub mod CreatingLaws
+pub mod GrantingLaws
 pub mod AskedLaws
 pub mod ChildLaws
 pub mod KeepLaws
+pub mod PlainLaws

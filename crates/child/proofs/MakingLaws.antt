@@ -9,19 +9,18 @@ use Rattle.refusals.specs.declared.Refusal.{Refusal}
 use Rattle.refusals.specs.declared.Refusal.the-variants.{TableFull, NumbersUsedUp, Escalation}
 use Rattle.refusals.specs.Refusals.{when, firstCause, Result, refused, ok}
 use Rattle.paths.specs.Giving.{Query, isQuery}
-use Rattle.table.specs.declared.Numbering.the-variants.{Plain}
 use Rattle.table.specs.declared.Outcome.{Outcome}
 use Rattle.table.specs.declared.Outcome.the-variants as outcome
 use Rattle.table.specs.Tables.{Table}
 use Rattle.table.specs.Acts.{Act, isAct, actOverflows, applyAct, applyActs}
 use Rattle.table.specs.Memory.{tableOf, holds, doActs}
-use Rattle.table.specs.Carrying.{usedUp, carryCause, actsOf, outcomeOf, CarriesOut}
+use Rattle.table.specs.Carrying.{roomCause, actsOf, outcomeOf, CarriesOut}
 use Rattle.table.proofs.Puts.{valid-of}
 use Rattle.table.proofs.ActLaws.{acts-append, Acted, acted-none, acted-one, outcome-done, outcome-refused}
 use Rattle.walk.specs.declared.PermissionState.{PermissionState}
-use Rattle.calls.specs.Decisions.{Decision, grantAct, passes}
-use Rattle.calls.specs.Calls.{actsIn}
-use Rattle.calls.proofs.FittingLaws.{grant-fits}
+use Rattle.deciding.specs.Decisions.{Decision, grantAct, passes}
+use Rattle.calls.specs.Calls.{decidedActs}
+use Rattle.deciding.proofs.FittingLaws.{grant-fits}
 use Rattle.child.specs.Making.{Made, refusedBy, onward, then, grantedBy, granting, passedOn, checked, itemBy}
 use Rattle.child.specs.Steps.{MakesChild}
 
@@ -56,8 +55,8 @@ unfolding firstCause actsOf
 granted-by true act o q = record { outcome = o; child = q }
 granted-by false act o q = record { outcome = o; child = q }
 
-pub grants-carried : {act : Act} {c c′ : List ℕ} {r : Outcome} → CarriesOut Plain (some act) c c′ r → MakesChild (grantedBy act (tableOf c)) c c′ r
-unfolding grantedBy carryCause usedUp
+pub grants-carried : {act : Act} {c c′ : List ℕ} {r : Outcome} → CarriesOut (some act) c c′ r → MakesChild (grantedBy act (tableOf c)) c c′ r
+unfolding grantedBy roomCause firstCause
 grants-carried {act} {c} C = granted-by (actOverflows (tableOf c) act) act (C .outcome) (C .memory)
 
 granted-acted : (over : Bool) (act : Act) {c : List ℕ} → holds c ≡ true → isAct act ≡ true → actOverflows (tableOf c) act ≡ over
@@ -131,8 +130,8 @@ pass-acted state q c h f = passed-acted (passes state) q c h f
 -- ---- one item
 
 -- its acts on the parent are those of the parent's check
-pub item-acts : (r : Result Decision) (q : Query) (u : Table) → itemBy r q u .acts ≡ actsIn r
-unfolding itemBy actsIn checked onward
+pub item-acts : (r : Result Decision) (q : Query) (u : Table) → itemBy r q u .acts ≡ decidedActs r
+unfolding itemBy decidedActs checked onward
 item-acts (refused cause) q u = refl
 item-acts (ok decision) q u = rw (passed-acts (decision .state) q u) (append-nil (actsOf none (decision .act)))
 

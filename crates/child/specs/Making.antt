@@ -9,18 +9,19 @@ use Rattle.refusals.specs.declared.Refusal.the-variants.{TableFull, Escalation}
 use Rattle.refusals.specs.Refusals.{Result, refused, ok}
 use Rattle.paths.specs.Resolving.{resolve}
 use Rattle.paths.specs.Giving.{Query, queryOf}
-use Rattle.table.specs.declared.Numbering.{Numbering}
 use Rattle.table.specs.Entries.{Entry, isGranted}
 use Rattle.table.specs.Tables.{Table, fresh, has, setBit, clearBit, granted}
 use Rattle.table.specs.Acts.{Act, insert, setSwitches, without, actOverflows, applyAct, applyActs}
-use Rattle.table.specs.Carrying.{past, actsOf}
+use Rattle.table.specs.Carrying.{actsOf}
+use Rattle.link.specs.Linking.{Numbering, past}
 use Rattle.walk.specs.declared.PermissionState.{PermissionState}
-use Rattle.calls.specs.declared.Call.the-variants.{Check}
-use Rattle.calls.specs.Decisions.{Decision, grantAct, passes}
+use Rattle.deciding.specs.declared.Call.the-variants.{Check}
+use Rattle.deciding.specs.Decisions.{Decision, grantAct, passes}
 use Rattle.calls.specs.Calls.{settled}
+use Rattle.items.specs.Items.{Item}
 use Rattle.child.specs.declared.ChildUnaryPermissionArg.{ChildUnaryPermissionArg}
 use Rattle.child.specs.declared.ChildUnaryPermissionArg.the-variants.{Inherit, Granted, NotGranted, GrantedList}
-use Rattle.child.specs.Arguments.{Item, Arguments}
+use Rattle.child.specs.Arguments.{Arguments}
 
 -- ---- what steps of a child call do
 

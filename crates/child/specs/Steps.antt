@@ -1,9 +1,8 @@
 -- What the functions inside the crate ensure, step by step; `Calls.antt` has what they come to.
-use Prim.Native.Nat.{ℕ, _≤_}
+use Prim.Native.Nat.{ℕ, _+_, _≤_}
 use mathlib.Core.Path.{_≡_}
-use mathlib.Core.List.{List, [], _∷_}
-use mathlib.Core.Bool.{Bool, true, false, _&&_}
-use lib.ListN.{length}
+use mathlib.Core.List.{List}
+use mathlib.Core.Bool.{Bool, true, false}
 use Rattle.refusals.specs.declared.Refusal.{Refusal}
 use Rattle.refusals.specs.Refusals.{ok}
 use Rattle.table.specs.declared.Outcome.{Outcome}
@@ -13,26 +12,17 @@ use Rattle.table.specs.Tables.{Table}
 use Rattle.table.specs.Acts.{insert}
 use Rattle.table.specs.Memory.{tableOf, doActs}
 use Rattle.table.specs.Carrying.{outcomeOf}
-use Rattle.table.specs.declared.Numbering.the-variants.{Plain}
-use Rattle.calls.specs.declared.PromptResponse.{PromptResponse}
-use Rattle.calls.specs.declared.ResponseRead.{ResponseRead}
-use Rattle.calls.specs.declared.ResponseRead.the-variants as response-read
-use Rattle.calls.specs.Decisions.{responseOf}
+use Rattle.records.specs.Numbers.{recordSpace}
+use Rattle.link.specs.declared.Link.{Link}
+use Rattle.link.specs.Linking.{numbering}
+use Rattle.link.specs.Sending.{Lent}
+use Rattle.link.specs.Steps.{Records}
+use Rattle.deciding.specs.declared.PromptResponse.{PromptResponse}
 use Rattle.child.specs.declared.ChildMade.{ChildMade}
-use Rattle.child.specs.Arguments.{maxItems, closeAt, knownResponses, Item}
+use Rattle.child.specs.declared.ChildSent.{ChildSent}
+use Rattle.items.specs.Items.{knownResponses, Item}
 use Rattle.child.specs.Making.{Made, nothing, refusedBy, grantedBy, itemStep, allItems}
 use Rattle.child.specs.Calls.{childLeft}
-
--- ---- arguments
-
-unfoldable pub isResponse : ResponseRead → Bool
-isResponse (response-read.Response response) = true
-isResponse response-read.Unknown = false
-
--- every answer is known
-unfoldable pub areResponses : List ℕ → Bool
-areResponses [] = true
-areResponses (n ∷ numbers) = isResponse (responseOf n) && areResponses numbers
 
 -- ---- steps in memory
 
@@ -49,13 +39,28 @@ pub record Makes (made : Made) (m c m′ c′ : List ℕ) (r : ChildMade) : Type
   pub parent : m′ ≡ doActs m (made .acts)
   pub child : c′ ≡ doActs c (made .grants)
 
--- one item, with its answer
-abbrev pub GrantsItem : List ℕ → Item → List ℕ → List ℕ → List ℕ → List ℕ → ChildMade → Type 0
-GrantsItem cwd item m c m′ c′ r = Makes (itemStep Plain cwd item (tableOf m) (tableOf c)) m c m′ c′ r
+-- ---- the items, with their records
+
+abbrev pub childDone : ℕ → ℕ → ChildSent
+childDone asked words = record { made = madeDone asked; words = words }
+
+abbrev pub childRefused : Refusal → ℕ → ℕ → ChildSent
+childRefused cause asked words = record { made = madeRefused cause asked; words = words }
+
+-- what is made of the parent's memory, which l lends, and the child's c, and the records of the acts on the parent
+pub record MakesSent (made : Made) (link : Link) (l : Lent) (c : List ℕ) (at : ℕ) (l′ : Lent) (c′ : List ℕ) (r : ChildSent) : Type 0 where
+  pub makes : Makes made (l .memory) c (l′ .memory) c′ (r .made)
+  pub records : Records link (made .acts) (l .number) (l .words) at (l′ .number) (l′ .words) (r .words)
+
+-- one item, with its answer: it takes one record's space at most
+pub record SendsItem (cwd : List ℕ) (item : Item) (link : Link) (l : Lent) (c : List ℕ) (at : ℕ) (l′ : Lent) (c′ : List ℕ) (r : ChildSent) : Type 0 where
+  pub sent : MakesSent (itemStep (numbering link (l .number)) cwd item (tableOf (l .memory)) (tableOf c)) link l c at l′ c′ r
+  pub few : r .words ≤ at + recordSpace
 
 -- the items that come of the answers, where all of them are known
-abbrev pub GrantsItems : List ℕ → (List PromptResponse → List Item) → List ℕ → List ℕ → List ℕ → List ℕ → List ℕ → ChildMade → Type 0
-GrantsItems cwd items responses m c m′ c′ r = (known : List PromptResponse) → knownResponses responses ≡ ok known → Makes (allItems Plain cwd (items known) (tableOf m) (tableOf c)) m c m′ c′ r
+abbrev pub SendsItems : List ℕ → (List PromptResponse → List Item) → List ℕ → Link → Lent → List ℕ → Lent → List ℕ → ChildSent → Type 0
+SendsItems cwd items responses link l c l′ c′ r = (known : List PromptResponse) → knownResponses responses ≡ ok known
+    → MakesSent (allItems (numbering link (l .number)) cwd (items known) (tableOf (l .memory)) (tableOf c)) link l c 0 l′ c′ r
 
 -- the same for steps that change the child's memory alone
 pub record MakesChild (made : Made) (c c′ : List ℕ) (r : Outcome) : Type 0 where
@@ -77,10 +82,3 @@ pub record Completes (made : Made) (asked : ℕ) (c c′ : List ℕ) (r : ChildM
   pub outcome : r .outcome ≡ outcomeOf (made .refused)
   pub times : r .asked ≡ asked
   pub child : c′ ≡ childLeft (made .refused) (doActs c (made .grants))
-
--- a list of items that are in order, with an answer for each, all of them known
-pub record Listed (bytes ends responses : List ℕ) : Type 0 where
-  pub closes : closeAt (length bytes) 0 ends ≡ true
-  pub many : length responses ≡ length ends
-  pub few : length ends ≤ maxItems
-  pub known : areResponses responses ≡ true

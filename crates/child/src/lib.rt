@@ -6,9 +6,6 @@ pub mod creating;
 pub mod granting;
 pub mod inheriting;
 
-// The most items of a child list.
-pub const MAX_ITEMS: usize = 64;
-
 // What a child is to have, with the Rust's names: the scope's child codes Inherit, Granted, NotGranted and list, in its order.
 pub enum ChildUnaryPermissionArg {
     Inherit,
@@ -27,4 +24,10 @@ pub enum ArgRead {
 pub struct ChildMade {
     pub outcome: Outcome,
     pub asked: usize,
+}
+
+// The same, and how many words of the record space hold its records, which stand there also where it is refused.
+pub struct ChildSent {
+    pub made: ChildMade,
+    pub words: usize,
 }

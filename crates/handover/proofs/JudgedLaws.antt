@@ -1,5 +1,5 @@
--- Laws of what is judged from the arrivals: the run is the highest that was opened, and the number reached is the greatest that is reached in it from any image,
--- or from 0.
+-- Laws of what is judged from the arrivals: the run is the highest that was opened, and the number reached is the greatest that is reached in it from any
+-- image, or from 0.
 use Prim.Native.Nat.{ℕ, _≤_, _<_}
 use mathlib.Core.Path.{_≡_, refl, sym, _∙_}
 use mathlib.Core.List.{List, [], _∷_, _++_, append-nil, append-assoc}

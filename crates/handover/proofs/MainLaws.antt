@@ -40,12 +40,15 @@ use Rattle.table.proofs.TableLaws.{fresh-table}
 use Rattle.records.specs.Records.{numbered, allWords}
 use Rattle.images.specs.Images.{Image, imageWords, imageSize, Writable}
 use Rattle.images.proofs.ImageLaws.{image-length, entries-bytes}
+use Rattle.link.specs.declared.Link.the-variants.{Linked}
 use Rattle.link.specs.declared.ImageSent.{ImageSent}
 use Rattle.link.specs.Sending.{Sends}
+use Rattle.link.specs.Sending as sending
 use Rattle.link.specs.Beginning.{beginCall, numberIn, BeginsRun}
 use Rattle.link.specs.Imaging.{imageCall, wordsIn, sizeIn, WritesImage, wroteBy}
 use Rattle.handover.specs.Handover.{
   Main,
+  lends,
   Step,
   inserts,
   switches,
@@ -96,7 +99,7 @@ use Rattle.handover.proofs.MessageLaws.{
   changes-image,
   words-image,
 }
-use Rattle.handover.proofs.SequenceLaws.{numbered-append}
+use Rattle.records.proofs.NumberedLaws.{numbered-append, numbered-length}
 
 -- ---- one call
 
@@ -108,26 +111,25 @@ pub record Advances (run : ℕ) (a : Main) (acts : List Act) (wrote : List ℕ) 
   pub recorded : Recorded run (a .number) (tableOf (a .memory)) acts
 
 sends-advance : {run : ℕ} {a a′ : Main} {acts : List Act} {wrote w w′ : List ℕ} {k : ℕ}
-    → Sends run (a .number) acts (a .memory) w (a′ .memory) (a′ .number) w′ k → wrote ≡ take k w′ → Recorded run (a .number) (tableOf (a .memory)) acts
+    → Sends (Linked run) acts (lends a w) (lends a′ w′) k → wrote ≡ take k w′ → Recorded run (a .number) (tableOf (a .memory)) acts
     → Advances run a acts wrote a′
-unfolding begun
-sends-advance {k = k} S e R = record {
+unfolding begun sending.changesOf
+sends-advance {run} {a} {acts = acts} {k = k} S e R = record {
   memory = S .memory;
-  number = S .number;
+  number = S .number ∙ ap (λ (j : ℕ). a .number + j) (numbered-length run (a .number) acts);
   words = e ∙ ap (take k) (S .words) ∙ take-at _ _ k (sym (S .count));
   recorded = R;
 }
 
-pub step-advances : {run : ℕ} {a a′ : Main} {acts : List Act} {wrote : List ℕ} → holds (a .memory) ≡ true → Step run a acts wrote a′ → Advances run a acts wrote a′
-step-advances {run} {a} h (inserts w kind p cwd w′ r B C L e f) =
-    rw e (sends-advance (L .sends) f (insert-recorded run (a .number) (a .memory) w h p cwd B C kind))
-step-advances {run} {a} h (switches w v w′ r L e f) = rw e (sends-advance (L .sends) f (switches-recorded run (a .number) (a .memory) w h v))
-step-advances {run} {a} h (asks call s w d p cwd response s′ w′ r B C L e f) =
-    rw e (sends-advance (L .sends) f (ask-recorded run (a .number) (a .memory) w h p cwd B C call s d response))
-step-advances {run} {a} h (revokes w d p cwd w′ r B C L e f) =
-    rw e (sends-advance (L .sends) f (revoke-recorded run (a .number) (a .memory) w h p cwd B C d))
-step-advances {run} {a} h (creates c w code bytes ends responses cwd c′ w′ r B C L e f) =
-    rw e (sends-advance (L .sends) f (create-recorded run (a .number) (a .memory) w h c code bytes ends responses cwd B C))
+pub step-advances : {run : ℕ} {a a′ : Main} {acts : List Act} {wrote : List ℕ} → holds (a .memory) ≡ true → Step run a acts wrote a′
+    → Advances run a acts wrote a′
+step-advances {run} {a} h (inserts w kind p cwd w′ r B C L e f) = rw e (sends-advance (L .sends) f (insert-recorded run (lends a w) h kind p cwd B C))
+step-advances {run} {a} h (switches w v w′ r L e f) = rw e (sends-advance (L .sends) f (switches-recorded run (lends a w) h v))
+step-advances {run} {a} h (asks call w s what response w′ s′ r B C L e f) =
+    rw e (sends-advance (L .sends) f (ask-recorded run (lends a w) h what B C call s response))
+step-advances {run} {a} h (revokes w what w′ r B C L e f) = rw e (sends-advance (L .sends) f (revoke-recorded run (lends a w) h what B C))
+step-advances {run} {a} h (creates w c code list cwd w′ c′ r B C L e f) =
+    rw e (sends-advance (L .sends) f (create-recorded run (lends a w) h c code list cwd B C))
 step-advances {run} {a} h (queries mode d p cwd r q same e f) =
     rw (same, e, f) (unfold doActs numbered allWords in record { memory = refl; number = omega arith; words = refl; recorded = no-act })
 
@@ -259,7 +261,8 @@ had-still : {q : ℕ} {r : Run} {runs : List Run} (new : List Act) → HadRun q 
 had-still new (presently e) = presently e
 had-still new (formerly H) = formerly H
 
-imaged-more : {runs all : List Run} {i : Image} (new : List Act) → (HadRun (i .run) runs → HadRun (i .run) all) → actsIn all (i .run) ≡ actsIn runs (i .run) ++ new
+imaged-more : {runs all : List Run} {i : Image} (new : List Act) → (HadRun (i .run) runs → HadRun (i .run) all)
+    → actsIn all (i .run) ≡ actsIn runs (i .run) ++ new
     → Imaged runs i → Imaged all i
 imaged-more {runs} {all} {i} new had e I = record {
   is = record {
@@ -321,7 +324,8 @@ module _ {a a′ : Main} {r : Run} {runs : List Run} {sent : List Message} {wrot
   unfolding actsIn
   each-more q = go (eqb (r .number) q) refl (M .each q)
     where
-      go : (b : Bool) → eqb (r .number) q ≡ b → RunIs q (cond b (r .acts) (actsIn runs q)) sent → RunIs q (cond b (r .acts ++ new) (actsIn runs q)) (sent ++ told)
+      go : (b : Bool) → eqb (r .number) q ≡ b → RunIs q (cond b (r .acts) (actsIn runs q)) sent
+          → RunIs q (cond b (r .acts ++ new) (actsIn runs q)) (sent ++ told)
       go true e R = let same = eqb-true (r .number) q e in rw (← same) (own-more (rw (← same) at R))
       go false e R = other-more (eqb-false (r .number) q e) R
 
@@ -329,7 +333,8 @@ module _ {a a′ : Main} {r : Run} {runs : List Run} {sent : List Message} {wrot
   main-more = record {
     present = in-run present-more;
     each = each-more;
-    images = λ i m. imaged-more _ (had-still new) (acts-more r runs new (i .run)) (⊎-elim (M .images i) (λ x. absurd (no-image-sent _ x)) (List·Memᴰ·append-cases sent m));
+    images = λ i m. imaged-more _ (had-still new) (acts-more r runs new (i .run))
+        (⊎-elim (M .images i) (λ x. absurd (no-image-sent _ x)) (List·Memᴰ·append-cases sent m));
     written = rw (M .written, W .words, words-append sent told, words-sent (numbered (r .number) (a .number) new));
   }
 
@@ -341,7 +346,11 @@ module _ {a : Main} {r : Run} {runs : List Run} {sent : List Message} {wrote : L
       let P = present-in (M .present) in
       let acts : actsIn (r ∷ runs) run ≡ r .acts = ap (actsIn (r ∷ runs)) (H .own (I .known)) ∙ acts-own r runs in
       rw (I .is) (record {
-        is = record { run = presently (sym (H .own (I .known))); made = rw acts (omega (arith, P .counted)); table = rw (acts, P .counted, take-length (r .acts)) (P .table) };
+        is = record {
+          run = presently (sym (H .own (I .known)));
+          made = rw acts (omega (arith, P .counted));
+          table = rw (acts, P .counted, take-length (r .acts)) (P .table);
+        };
         writable = record { ofRun = I .known; few = I .few; within = valid-of (a .memory) (P .holding); bytes = entries-bytes (a .memory) B };
       })
 

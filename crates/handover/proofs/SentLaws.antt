@@ -9,7 +9,7 @@ use native.Mathlib.Omega.{arith}
 use lib.ListN.{length, take}
 use Rattle.table.specs.Tables.{fresh}
 use Rattle.table.specs.Acts.{Act, actOverflows, applyActs}
-use Rattle.table.specs.Carrying.{isRun}
+use Rattle.records.specs.Numbers.{isRun}
 use Rattle.records.specs.Records.{Change, Readable}
 use Rattle.images.specs.Images.{Image}
 use Rattle.handover.specs.Handover.{Main, Message, changed, image, Run, actsIn, changes, runOf, numberOf, opens}

@@ -29,14 +29,10 @@ use lib.Dec.{eqb}
 use borrow.Author.Tests.{eqb-true, eqb-false}
 use Rattle.table.specs.Acts.{Act, revokeAll}
 use Rattle.records.specs.Records.{Change, numbered}
+use Rattle.records.proofs.NumberedLaws.{numbered-append}
 use Rattle.handover.specs.Handover.{changes, reach, InSequence}
 
 -- ---- the changes of a run
-
-pub numbered-append : (q n : ℕ) (a b : List Act) → numbered q n (a ++ b) ≡ numbered q n a ++ numbered q (n + length a) b
-unfolding numbered
-numbered-append q n [] b = let same : n + 0 ≡ n = omega arith in rw same
-numbered-append q n (act ∷ a) b = let same : n + suc (length a) ≡ n + 1 + length a = omega arith in rw (same, numbered-append q (n + 1) a b)
 
 numbered-take : (q n k : ℕ) (acts : List Act) → take k (numbered q n acts) ≡ numbered q n (take k acts)
 unfolding numbered
@@ -54,7 +50,7 @@ numbered-drop q n (suc k) (act ∷ acts) = let same : n + suc k ≡ n + 1 + k = 
 between : (q : ℕ) (acts : List Act) (base k : ℕ) → drop base (take k (changes q acts)) ≡ numbered q base (drop base (take k acts))
 between q acts base k = rw (numbered-take q 0 k acts, numbered-drop q 0 base (take k acts), zero-add)
 
--- the change behind the first k
+-- the change after the first k
 abbrev pub changeAt : ℕ → List Act → ℕ → Change
 changeAt q acts k = record { run = q; number = k + 1; act = getD acts k revokeAll }
 

@@ -14,7 +14,7 @@ use Rattle.refusals.specs.Refusals.{firstCause, Result, ok}
 use Rattle.table.specs.Tables.{fresh}
 use Rattle.table.specs.Acts.{revokeAll, actOverflows, applyAct, applyActs}
 use Rattle.table.specs.Memory.{tableOf, holds, put, doAct}
-use Rattle.table.specs.Carrying.{usedUp, carryCause}
+use Rattle.table.specs.Carrying.{roomCause}
 use Rattle.table.proofs.ActLaws.{applied-append, left-act}
 use Rattle.table.proofs.Puts.{long-of, left-put}
 use Rattle.table.proofs.TableLaws.{fresh-table}
@@ -220,7 +220,7 @@ module _ {runs : List Run} {m : List ℕ} {s : Numbers} {j : Judged} {came : Lis
     arrived-next : {m′ : List ℕ} {s′ : Numbers} {r : Arrival} → c .run ≡ met s (c .run) (c .number) .run → c .number ≡ met s (c .run) (c .number) .n + 1
         → Comes (applied (tableOf m) m (met s (c .run) (c .number)) c) m s m′ s′ r
         → StandbyIs runs m′ s′ (judgedBy j (changed c)) (came ++ changed c ∷ []) (answers ++ r ∷ [])
-    unfolding leftBy runOf numberOf carryCause usedUp firstCause
+    unfolding leftBy runOf numberOf roomCause firstCause
     arrived-next q e D =
         let N = change-in {n = s .n} (q ∙ same-run) (omega (arith, same-n)) in
         let A = rw (applied-room (tableOf m) m (met s (c .run) (c .number)) c (rw (next-room (S .stands) N))) at D in
@@ -228,7 +228,8 @@ module _ {runs : List Run} {m : List ℕ} {s : Numbers} {j : Judged} {came : Lis
         (then-left S (changed c) never-applied (judged-same j c (omega (arith, same-run))) (rw same-n (stands-next (S .stands) N)) same-run
         (agrees-here s (sym q) (sym e)))
 
-    arrived-by : {call : Result Left} {m′ : List ℕ} {s′ : Numbers} {r : Arrival} → Taking (tableOf m) m (met s (c .run) (c .number)) c call → Comes call m s m′ s′ r
+    arrived-by : {call : Result Left} {m′ : List ℕ} {s′ : Numbers} {r : Arrival} → Taking (tableOf m) m (met s (c .run) (c .number)) c call
+        → Comes call m s m′ s′ r
         → StandbyIs runs m′ s′ (judgedBy j (changed c)) (came ++ changed c ∷ []) (answers ++ r ∷ [])
     unfolding leftBy runOf numberOf
     arrived-by (lower l) D =
@@ -304,7 +305,8 @@ standby-is G (thenLoad {i = i} A x D e f) = then-load (standby-is G A) (G (image
 
 -- ---- before a run is opened
 
-module _ {runs : List Run} {s : Standby} {came : List Message} {answers : List Arrival} (S : StandbyIs runs (s .memory) (s .numbers) (judged came) came answers) where
+module _ {runs : List Run} {s : Standby} {came : List Message} {answers : List Arrival}
+    (S : StandbyIs runs (s .memory) (s .numbers) (judged came) came answers) where
   pub opened : Greatest (Opened came) (s .numbers .run)
   opened = rw (S .run) (judged-opened came)
 

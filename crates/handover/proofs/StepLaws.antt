@@ -1,5 +1,6 @@
--- Laws of single steps: each call has a next main, and what goes on from a main or a standby whose table is known.
-use Prim.Native.Nat.{ℕ, zero, suc, _+_, _≤_, _<_}
+-- What the runs of `Witness.antt` and `Wrong.antt` are made of: each call has a next main, and what goes on from a main or a standby whose table is known. The
+-- proof of demand 3 does not use it.
+use Prim.Native.Nat.{ℕ, zero, suc, _+_, _*_, _≤_, _<_}
 use mathlib.Core.Path.{_≡_, refl, sym, ap, _∙_}
 use mathlib.Core.List.{List, [], _∷_, _++_, List·Memᴰ, List·Memᴰ·eq-of-singleton, List·Memᴰ·not-nil}
 use mathlib.Core.Option.{some}
@@ -7,6 +8,7 @@ use mathlib.Core.Bool.{Bool, true}
 use native.Mathlib.Omega.{arith}
 use lib.ListN.{length, take}
 use lib.Seq.{take-append-seam}
+use borrow.Author.Tests.{le-ltb}
 use Rattle.refusals.specs.declared.Refusal.{Refusal}
 use Rattle.refusals.specs.declared.Refusal.the-variants.{NoTable}
 use Rattle.refusals.specs.Refusals.{when, firstCause, Result, refused, ok, andThen, unless, causeOf}
@@ -18,31 +20,33 @@ use Rattle.table.specs.declared.Outcome.the-variants as outcome
 use Rattle.table.specs.Tables.{Table, fresh, isTable}
 use Rattle.table.specs.Acts.{Act, applyAct, applyActs}
 use Rattle.table.specs.Memory.{tableBytes, put, doAct, doActs}
-use Rattle.table.specs.Carrying.{linked, isRun, outcomeOf}
-use Rattle.table.specs.Calls.{tableIn, switchesCall, insertCall}
-use Rattle.table.specs.Calls as table-calls
+use Rattle.table.specs.Carrying.{outcomeOf}
+use Rattle.table.specs.Calls.{tableIn}
 use Rattle.table.proofs.CallLaws.{makes-fresh}
 use Rattle.table.proofs.Puts.{long-of, left-put}
 use Rattle.table.proofs.TableLaws.{fresh-table}
 use Rattle.table.proofs.StandingLaws.{allFit, Stands, stands-then, table-in, spaceOf, tableMemory, memory-stands}
-use Rattle.walk.specs.declared.Answer.{Answer}
-use Rattle.walk.specs.Calls.{queryAnswer}
-use Rattle.calls.specs.declared.Call.{Call}
-use Rattle.calls.specs.Decisions.{Decision}
-use Rattle.calls.specs.Calls.{askCall, textDue, revokeCall}
-use Rattle.calls.specs.Calls as calls
-use Rattle.calls.proofs.AskLaws.{resultOf, answers-of}
-use Rattle.child.specs.Calls.{Creation, childCall, refusalIn, childAfter}
-use Rattle.child.specs.Calls as child-calls
+use Rattle.records.specs.Numbers.{isRun, recordSpace}
 use Rattle.records.specs.Records.{Change, changeWords, numbered, allWords, readChange}
 use Rattle.records.proofs.RecordLaws.{read-back}
 use Rattle.images.specs.Images.{Image, imageWords, imageSize, readImage}
 use Rattle.images.proofs.ImageLaws.{image-read}
+use Rattle.link.specs.declared.Link.the-variants.{Linked}
 use Rattle.link.specs.declared.ImageSent.{ImageSent}
+use Rattle.link.specs.Linking.{atLeastOne, lacksRoom, roomIn, singleAct}
+use Rattle.link.specs.Sending.{changesOf, Sends}
 use Rattle.link.specs.Beginning.{beginCall, BeginsRun}
 use Rattle.link.specs.Imaging.{imageCall, wordsIn, sizeIn, WritesImage}
-use Rattle.link.proofs.SendingLaws.{sends-of}
+use Rattle.link.proofs.LinkLaws.{room-long}
 use Rattle.link.proofs.BeginningLaws.{begins-refused, begins-fresh}
+use Rattle.walk.specs.declared.Answer.{Answer}
+use Rattle.walk.specs.Calls.{queryAnswer}
+use Rattle.deciding.specs.declared.Call.{Call}
+use Rattle.deciding.specs.Decisions.{Decision}
+use Rattle.items.specs.Items.{ItemList}
+use Rattle.calls.specs.Calls.{answerIn, askedIn, decidedActs, About, askCall, textDue, revokeCall}
+use Rattle.calls.specs.Changes.{switchesCall, insertCall}
+use Rattle.child.specs.Calls.{Creation, childCall, refusalIn, timesAsked, childActs, childAfter}
 use Rattle.standby.specs.declared.Numbers.{Numbers}
 use Rattle.standby.specs.declared.Arrival.{Arrival}
 use Rattle.standby.specs.Arriving.{conflict, standbyIn, wellFormed, Left, leftBy, Comes}
@@ -50,6 +54,7 @@ use Rattle.standby.specs.Loading.{isImage}
 use Rattle.handover.specs.Handover.{
   IsFresh,
   Main,
+  lends,
   inserts,
   switches,
   asks,
@@ -95,6 +100,7 @@ use Rattle.handover.specs.Witness.{
 }
 use Rattle.handover.specs.Wrong.{Taking, arrivalBy, By, Bringing, loadingBy, LoadBy}
 use Rattle.handover.proofs.MessageLaws.{words-append, words-sent, words-image}
+use Rattle.records.proofs.NumberedLaws.{numbered-length}
 use Rattle.handover.proofs.MainLaws.{image-wrote, present-in, main-is}
 use Rattle.handover.proofs.BytesLaws.{begin-bytes, step-bytes}
 use Rattle.handover.proofs.SentLaws.{Genuine, change-is, image-is, genuine}
@@ -111,80 +117,84 @@ unfolding begun
 at-start x w = sym (take-append-seam x _)
 
 module _ (run : ℕ) (a : Main) (w : List ℕ) where
-  pub insert-steps : (kind : ℕ) (p cwd : List ℕ) → Bytes p → Bytes cwd → (call : Result Act) → insertCall (linked run (a .number) w) (a .memory) kind p cwd ≡ call
-      → Steps run a (table-calls.actsIn call) (inserting run kind p (outcomeOf (causeOf call)))
+  -- the record space after acts, and how many words their records take
+  abbrev space : List Act → List ℕ
+  space acts = begun (sent run a acts) w
+
+  abbrev size : List Act → ℕ
+  size acts = length (sent run a acts)
+
+  sends-left : {made : List Act} (acts : List Act) → made ≡ acts → Sends (Linked run) made (lends a w) (lends (after a acts) (space acts)) (size acts)
+  unfolding changesOf
+  sends-left acts e = rw e (record {
+    memory = refl;
+    number = ap (λ (k : ℕ). a .number + k) (sym (numbered-length run (a .number) acts));
+    words = refl;
+    count = refl;
+  })
+
+  pub insert-steps : (kind : ℕ) (p cwd : List ℕ) → Bytes p → Bytes cwd → (call : Result Act) → insertCall (Linked run) (lends a w) kind p cwd ≡ call
+      → Steps run a (singleAct call) (inserting run kind p (outcomeOf (causeOf call)))
   unfolding lineOf
   insert-steps kind p cwd b c call e =
-      let acts = table-calls.actsIn call in
+      let acts = singleAct call in
       record {
         step =
-            inserts w kind p cwd (begun (sent run a acts) w) (record { outcome = outcomeOf (causeOf call); words = length (sent run a acts) }) b c
-            (record { outcome = rw e; sends = sends-of run (a .number) (a .memory) w (rw e) })
-            (rw e)
-            (at-start _ _);
+            inserts w kind p cwd (space acts) (record { outcome = outcomeOf (causeOf call); words = size acts }) b c
+            (record { outcome = rw e; sends = sends-left acts (rw e) }) (rw e) (at-start _ _);
         is = refl;
       }
 
-  pub switches-steps : (v : ℕ) (call : Result Act) → switchesCall (linked run (a .number) w) (a .memory) v ≡ call
-      → Steps run a (table-calls.actsIn call) (switching run v (outcomeOf (causeOf call)))
+  pub switches-steps : (v : ℕ) (call : Result Act) → switchesCall (Linked run) (lends a w) v ≡ call
+      → Steps run a (singleAct call) (switching run v (outcomeOf (causeOf call)))
   unfolding lineOf
   switches-steps v call e =
-      let acts = table-calls.actsIn call in
+      let acts = singleAct call in
       record {
         step =
-            switches w v (begun (sent run a acts) w) (record { outcome = outcomeOf (causeOf call); words = length (sent run a acts) })
-            (record { outcome = rw e; sends = sends-of run (a .number) (a .memory) w (rw e) })
-            (rw e)
-            (at-start _ _);
+            switches w v (space acts) (record { outcome = outcomeOf (causeOf call); words = size acts })
+            (record { outcome = rw e; sends = sends-left acts (rw e) }) (rw e) (at-start _ _);
         is = refl;
       }
 
-  pub ask-steps : (kind : Call) (s : List ℕ) (d : Descriptor) (p cwd : List ℕ) (response : ℕ) → Bytes p → Bytes cwd → (call : Result Decision)
-      → askCall kind (linked run (a .number) w) (a .memory) s d p cwd response ≡ call → Steps run a (calls.actsIn call) (asking run kind d p response (calls.answerIn call))
+  pub ask-steps : (kind : Call) (s : List ℕ) (what : About) (response : ℕ) → Bytes (what .given) → Bytes (what .cwd) → (call : Result Decision)
+      → askCall kind (Linked run) (lends a w) s what response ≡ call
+      → Steps run a (decidedActs call) (asking run kind (what .descriptor) (what .given) response (answerIn call))
   unfolding lineOf
-  ask-steps kind s d p cwd response b c call e =
-      let acts = calls.actsIn call in
+  ask-steps kind s what response b c call e =
+      let acts = decidedActs call in
+      let text = textDue call what in
       record {
         step =
-            asks kind s w d p cwd response (begun (textDue call d p cwd) s) (begun (sent run a acts) w)
-            (record { answered = resultOf call d p cwd; words = length (sent run a acts) })
-            b
-            c
-            (record { answers = answers-of d p cwd s e; sends = sends-of run (a .number) (a .memory) w (rw e) })
-            (rw e)
-            (at-start _ _);
+            asks kind w s what response (space acts) (begun text s)
+            (record { answer = answerIn call; asked = askedIn call; text = length text; words = size acts }) b c
+            (record { answers = record { answer = rw e; asked = rw e; size = rw e; space = rw e }; sends = sends-left acts (rw e) }) (rw e) (at-start _ _);
         is = refl;
       }
 
-  pub revoke-steps : (d : Descriptor) (p cwd : List ℕ) → Bytes p → Bytes cwd → (call : Result Decision) → revokeCall (linked run (a .number) w) (a .memory) d p cwd ≡ call
-      → Steps run a (calls.actsIn call) (revoking run d p (calls.answerIn call))
+  pub revoke-steps : (what : About) → Bytes (what .given) → Bytes (what .cwd) → (call : Result Decision) → revokeCall (Linked run) (lends a w) what ≡ call
+      → Steps run a (decidedActs call) (revoking run (what .descriptor) (what .given) (answerIn call))
   unfolding lineOf
-  revoke-steps d p cwd b c call e =
-      let acts = calls.actsIn call in
+  revoke-steps what b c call e =
+      let acts = decidedActs call in
       record {
         step =
-            revokes w d p cwd (begun (sent run a acts) w) (record { answer = calls.answerIn call; words = length (sent run a acts) }) b c
-            (record { answer = rw e; sends = sends-of run (a .number) (a .memory) w (rw e) })
-            (rw e)
-            (at-start _ _);
+            revokes w what (space acts) (record { answer = answerIn call; words = size acts }) b c
+            (record { answer = rw e; sends = sends-left acts (rw e) }) (rw e) (at-start _ _);
         is = refl;
       }
 
-  pub child-steps : (c : List ℕ) (code : ℕ) (bytes ends responses cwd : List ℕ) → Bytes bytes → Bytes cwd → (call : Result Creation)
-      → childCall (linked run (a .number) w) (a .memory) c code bytes ends responses cwd ≡ call
-      → Steps run a (child-calls.actsIn call) (creating run code bytes ends responses (outcomeOf (refusalIn call)))
+  pub child-steps : (c : List ℕ) (code : ℕ) (list : ItemList) (cwd : List ℕ) → Bytes (list .bytes) → Bytes cwd → (call : Result Creation)
+      → childCall (Linked run) (lends a w) c code list cwd ≡ call
+      → Steps run a (childActs call) (creating run code (list .bytes) (list .ends) (list .responses) (outcomeOf (refusalIn call)))
   unfolding lineOf
-  child-steps c code bytes ends responses cwd b d call e =
-      let acts = child-calls.actsIn call in
+  child-steps c code list cwd b d call e =
+      let acts = childActs call in
       record {
         step =
-            creates c w code bytes ends responses cwd (childAfter call c) (begun (sent run a acts) w)
-            (record { made = record { outcome = outcomeOf (refusalIn call); asked = child-calls.askedIn call }; words = length (sent run a acts) })
-            b
-            d
-            (record { creates = record { outcome = rw e; asked = rw e; child = rw e }; sends = sends-of run (a .number) (a .memory) w (rw e) })
-            (rw e)
-            (at-start _ _);
+            creates w c code list cwd (space acts) (childAfter call c)
+            (record { made = record { outcome = outcomeOf (refusalIn call); asked = timesAsked call }; words = size acts }) b d
+            (record { creates = record { outcome = rw e; asked = rw e; child = rw e }; sends = sends-left acts (rw e) }) (rw e) (at-start _ _);
         is = refl;
       }
 
@@ -230,7 +240,8 @@ module _ {runs : List Run} {sent : List Message} {lines : List Line} (C : Course
       }
 
   -- a beginning that is refused
-  pub course-refuses : (q : ℕ) (cause : Refusal) → beginCall (C .main .memory) q ≡ refused cause → Course runs sent (lines ++ beginning q (outcome.Refused cause) ∷ [])
+  pub course-refuses : (q : ℕ) (cause : Refusal) → beginCall (C .main .memory) q ≡ refused cause
+      → Course runs sent (lines ++ beginning q (outcome.Refused cause) ∷ [])
   unfolding script
   course-refuses q cause e =
       record { main = C .main; calls = thenNoRun (C .calls) q cause (begins-refused e); said = rw (C .said); bytes = C .bytes }
@@ -354,8 +365,8 @@ nextImage bringing t m s i = andThen (standing t s) (λ t. ok (bringing m s i))
 abbrev pub Leaves : (List ℕ → Result Left) → Numbers → Effect → Arrival → Numbers → Type 0
 Leaves call s x r s′ = (m : List ℕ) → leftBy (call m) m s ≡ record { answer = r; memory = memoryBy x m; numbers = s′ }
 
-leaves-comes : (call : List ℕ → Result Left) {s s′ : Numbers} (x : Effect) {r : Arrival} → Leaves call s x r s′ → (m : List ℕ) {given : Result Left} → given ≡ call m
-    → Comes given m s (memoryBy x m) s′ r
+leaves-comes : (call : List ℕ → Result Left) {s s′ : Numbers} (x : Effect) {r : Arrival} → Leaves call s x r s′
+    → (m : List ℕ) {given : Result Left} → given ≡ call m → Comes given m s (memoryBy x m) s′ r
 leaves-comes call {s} x L m e =
     let is = sym (ap (λ (y : Result Left). leftBy y m s) e ∙ L m) in
     record { answer = ap (λ (l : Left). l .answer) is; memory = ap (λ (l : Left). l .memory) is; numbers = ap (λ (l : Left). l .numbers) is }
@@ -393,7 +404,12 @@ module _ {runs : List Run} {sent : List Message} {lines : List Line} (C : Course
       is : loadingBy bringing (F .memory) (imageWords i) s ≡ nextImage bringing t (F .memory) s i
       is = unfold isImage andThen in rw (standing-is (F .stands) s, image-legible (genuine (main-is (C .calls)) (image i) member))
 
--- ---- memory
+-- ---- what is lent
+
+-- record space for k items
+pub room-linked : (k run : ℕ) (w : List ℕ) → recordSpace * atLeastOne k ≤ length w → roomIn k (Linked run) w ≡ ok w
+unfolding lacksRoom
+room-linked k run w h = room-long k (Linked run) w (le-ltb (length w) (recordSpace * atLeastOne k) h)
 
 pub bytes-space : (n : ℕ) → Bytes (spaceOf n)
 unfolding spaceOf

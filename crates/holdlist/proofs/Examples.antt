@@ -13,8 +13,8 @@ use Rattle.table.specs.Entries.{kindOf, isKind, samePath, strictlyExtends, comp
 use Rattle.table.specs.Placing.{isAfter, searchFrom, search, placeBy, place, placedAt}
 use Rattle.table.specs.Tables.{has, setBit, clearBit, marked, pathBytes, isEntry, every, any, present, marksOf, isTable}
 use Rattle.table.specs.Acts.{keptUnless, without, droppedBy, insertedBy, inserted, adds, wouldAdd, hasRoom, overflows, actOverflows, applyAct}
-use Rattle.table.specs.Carrying.{usedUp, past, carryCause}
-use Rattle.table.specs.Calls.{carried}
+use Rattle.table.specs.Carrying.{roomCause}
+use Rattle.table.specs.Calls.{withRoom}
 use Rattle.table.specs.Memory.{tableBytes, kindIn, entriesAt, tableOf, areWithin, holds, encodeEntry, encodeAll, encode, put, doAct}
 use Rattle.records.specs.Records.{actNumber, pathWords, pathPart, actPart, changeWords, isRunWord, isLength, isSwitches, isPathWord, withBytes, bytesFrom, ifResolved, readPath, withPath, readSwitches, readAct, withNumber, readHead, readFirst, endedBy, ended, readChange}
 use Rattle.standby.specs.Arriving.{conflict, standbyIn, wellFormed, higher, met, applied, inRun, moved, taken, arrival}
@@ -67,7 +67,7 @@ unfolding printed two-changes ninety-owed word-left board-swap no-run
     isAfter searchFrom search placeBy place placedAt
     has setBit clearBit marked pathBytes isEntry every any present marksOf isTable
     keptUnless without droppedBy insertedBy inserted adds wouldAdd hasRoom overflows actOverflows applyAct
-    usedUp past carryCause carried
+    roomCause withRoom
     kindIn entriesAt tableOf areWithin holds encodeEntry encodeAll encode put doAct
     actNumber pathWords pathPart actPart changeWords isRunWord isLength isSwitches isPathWord withBytes bytesFrom ifResolved readPath withPath readSwitches readAct withNumber readHead readFirst endedBy ended readChange
     conflict standbyIn wellFormed higher met applied inRun moved taken arrival owedOf

@@ -19,11 +19,10 @@ use Rattle.records.proofs.WrittenLaws.{written-first}
 use Rattle.records.proofs.FirstLaws.{same-first}
 use Rattle.refusals.specs.declared.Refusal.{Refusal}
 use Rattle.refusals.specs.Refusals.{Result, refused, ok, andThen}
-use Rattle.table.specs.declared.Numbering.the-variants.{Plain}
 use Rattle.table.specs.Tables.{Table}
 use Rattle.table.specs.Acts.{Act}
 use Rattle.table.specs.Memory.{tableOf}
-use Rattle.table.specs.Calls.{carried}
+use Rattle.table.specs.Calls.{withRoom}
 use Rattle.records.specs.Records.{Change, Read, changeWords, readFirst}
 use Rattle.standby.specs.declared.Numbers.{Numbers}
 use Rattle.standby.specs.declared.Arrival.{Arrival}
@@ -52,7 +51,7 @@ tells-taken (waits l other) = leaves refl
 tells-taken (comes l one) = leaves refl
 tells-taken (repeats q l) = leaves refl
 tells-taken (early q l) = leaves refl
-tells-taken {t} {m} {s} {c} (next q k) = unfold applied in tells-applied m s (carried Plain t (c .act))
+tells-taken {t} {m} {s} {c} (next q k) = unfold applied in tells-applied m s (withRoom t (c .act))
 
 tells-arrival : (m words : List ℕ) (s : Numbers) → Tells (arrival m words s)
 tells-arrival m words s = arrival-by m words s Tells (λ cause. stops) (λ c e. tells-taken (taking (tableOf m) m (met s (c .run) (c .number)) c))

@@ -7,7 +7,7 @@ use mathlib.Core.Bool.{Bool, true, false, _||_, cond}
 use lib.ListN.{length, drop}
 use lib.Dec.{leb}
 use Rattle.refusals.specs.Refusals.{Result, refused, ok}
-pub use Rattle.table.specs.Calls.{recordSpace}
+pub use Rattle.records.specs.Numbers.{recordSpace}
 use Rattle.records.specs.Records.{Change, Read, changeWords, readFirst}
 use Rattle.standby.specs.declared.Numbers.{Numbers}
 use Rattle.standby.specs.declared.Arrival.{Arrival}

@@ -17,7 +17,7 @@ use Rattle.table.specs.declared.Kind.{Kind}
 use Rattle.table.specs.Entries.{Entry, kindNumber, maxKind}
 use Rattle.table.specs.Tables.{Table, maxEntries, maxSwitches, pathBytes, isEntry, every, isTable}
 use Rattle.table.specs.Memory.{tableHead, entryHead, wordAt, lenAt, nextAt, entriesAt, tableOf}
-use Rattle.table.specs.Carrying.{maxNumber}
+use Rattle.records.specs.Numbers.{maxNumber}
 use Rattle.table.proofs.TableLaws.{valid-parts, marks-small}
 use Rattle.table.proofs.Within.{kind-number, number-small}
 use Rattle.records.specs.Records.{actUnit, numberBits, ifResolved}

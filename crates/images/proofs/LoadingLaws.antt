@@ -18,7 +18,7 @@ use Rattle.table.proofs.TableCopies.{put-by}
 use Rattle.records.specs.Records.{Read}
 use Rattle.records.proofs.WrittenLaws.{never}
 use Rattle.images.specs.declared.EntryRead.the-variants as entry-answer
-use Rattle.images.specs.Images.{Image, allEntryWords, imageWords, readEntry, withEntry, readEntries, readImage}
+use Rattle.images.specs.Images.{imageHead, Image, allEntryWords, imageWords, readEntry, withEntry, readEntries, readImage}
 use Rattle.images.specs.Steps.{entryAnswer, entryInto, IsRead, loadedBy}
 use Rattle.images.proofs.ImageLaws.{entries-read}
 use Rattle.images.proofs.WrittenLaws.{image-written, image-writable}
@@ -54,12 +54,12 @@ abbrev pub entriesOf : {image : Option Image} {switches marks count : ℕ} → I
 entriesOf R = R .value .table .entries
 
 pub loading-start : {ws : List ℕ} {switches marks count : ℕ} (R : IsRead (readImage ws) switches marks count) (m : List ℕ) → tableBytes ≤ length m
-    → Loading ws (entriesOf R) m m 3 tableHead count
+    → Loading ws (entriesOf R) m m imageHead tableHead count
 unfolding imageWords
 loading-start {ws} R m long =
     let es = entriesOf R in
     let W = image-writable ws (R .is) in
-    let words : drop 3 ws ≡ allEntryWords es ++ [] = ap (drop 3) (sym (image-written ws (R .is))) ∙ sym (append-nil (allEntryWords es)) in
+    let words : drop imageHead ws ≡ allEntryWords es ++ [] = ap (drop imageHead) (sym (image-written ws (R .is))) ∙ sym (append-nil (allEntryWords es)) in
     record {
       rest = es;
       reads = (λ i. readEntries (R .same-count i) (words i)) ∙ entries-read [] (valid-parts _ (W .within) .each) (W .bytes);

@@ -19,7 +19,7 @@ use Rattle.records.specs.Steps.{wordsFor}
 use Rattle.records.proofs.RecordLaws.{path-short}
 use Rattle.records.proofs.ReadingLaws.{over-start}
 use Rattle.records.proofs.WritingLaws.{three-before}
-use Rattle.images.specs.Images.{entryWords, allEntryWords, imageSize, maxImage}
+use Rattle.images.specs.Images.{imageHead, entryWords, allEntryWords, imageSize, maxImage}
 use Rattle.images.proofs.ImageLaws.{entry-length, size-more, few-words}
 
 -- a word stored before others
@@ -46,11 +46,11 @@ pub record Counting (m : List ℕ) (size : ℕ) (c : Cursor) : Type 0 where
   pub goes : size + length (allEntryWords (entriesFrom m c)) ≡ imageSize (tableOf m)
   pub most : imageSize (tableOf m) ≤ maxImage
 
-pub counting-start : (m : List ℕ) {c : Cursor} → holds m ≡ true → c ≡ firstEntry m → Counting m 3 c
+pub counting-start : (m : List ℕ) {c : Cursor} → holds m ≡ true → c ≡ firstEntry m → Counting m imageHead c
 unfolding imageSize
 counting-start m h e = rw e (record {
   inside = first-in m h;
-  goes = ap (λ (es : List Entry). 3 + length (allEntryWords es)) (first-from m);
+  goes = ap (λ (es : List Entry). imageHead + length (allEntryWords es)) (first-from m);
   most = few-words (tableOf m) (valid-of m h);
 })
 
@@ -82,11 +82,11 @@ module _ {m : List ℕ} {size : ℕ} {c : Cursor} (C : Counting m size c) where
 -- whatever writing the entries from the cursor on comes to, writing all of them comes to that
 pub record Writing (m w w′ : List ℕ) (at : ℕ) (c : Cursor) : Type 0 where
   pub inside : InList m c
-  pub goes : {w″ : List ℕ} {end : ℕ} → Appends (allEntryWords (entriesFrom m c)) w′ at w″ end → Appends (allEntryWords (tableOf m .entries)) w 3 w″ end
+  pub goes : {w″ : List ℕ} {end : ℕ} → Appends (allEntryWords (entriesFrom m c)) w′ at w″ end → Appends (allEntryWords (tableOf m .entries)) w imageHead w″ end
   pub room : at + length (allEntryWords (entriesFrom m c)) ≤ length w′
   pub same : length w′ ≡ length w
 
-pub writing-start : (m w : List ℕ) {c : Cursor} → holds m ≡ true → imageSize (tableOf m) ≤ length w → c ≡ firstEntry m → Writing m w w 3 c
+pub writing-start : (m w : List ℕ) {c : Cursor} → holds m ≡ true → imageSize (tableOf m) ≤ length w → c ≡ firstEntry m → Writing m w w imageHead c
 unfolding imageSize
 writing-start m w {c} h long f =
     let all : entriesFrom m c ≡ tableOf m .entries = ap (entriesFrom m) f ∙ first-from m in
@@ -112,12 +112,12 @@ module _ {m w w′ : List ℕ} {at : ℕ} {c : Cursor} (W : Writing m w w′ at 
       })
 
   -- and the words of run, number and table before them
-  pub writing-done : (v : List ℕ) (run number table : ℕ) → isAtEntry c ≡ false → w ≡ set (set (set v 0 run) 1 number) 2 table → 3 ≤ length v
+  pub writing-done : (v : List ℕ) (run number table : ℕ) → isAtEntry c ≡ false → w ≡ set (set (set v 0 run) 1 number) 2 table → imageHead ≤ length v
       → w′ ≡ begun (run ∷ number ∷ table ∷ allEntryWords (tableOf m .entries)) v
   unfolding allEntryWords
   writing-done v run number table h e three =
       let A = W .goes (appends-as (ap allEntryWords (sym (from-end m c h))) (appends-none w′ at)) in
       A .content
-      ∙ ap (λ (x : List ℕ). overwrite x 3 (allEntryWords (tableOf m .entries))) e
+      ∙ ap (λ (x : List ℕ). overwrite x imageHead (allEntryWords (tableOf m .entries))) e
       ∙ three-before v 0 run number table (allEntryWords (tableOf m .entries)) three
       ∙ over-start v (run ∷ number ∷ table ∷ allEntryWords (tableOf m .entries))

@@ -16,7 +16,7 @@ use Rattle.table.specs.declared.Kind.{Kind}
 use Rattle.table.specs.Entries.{Entry, kindNumber}
 use Rattle.table.specs.Tables.{isEntry, every, isTable}
 use Rattle.table.specs.Memory.{kindFrom}
-use Rattle.table.specs.Carrying.{maxNumber}
+use Rattle.records.specs.Numbers.{maxNumber}
 use Rattle.table.proofs.Within.{number-kind}
 use Rattle.records.specs.Records.{actUnit, isRunWord, lowOfWord, numberBits, Read, bytesFrom, ifResolved}
 use Rattle.records.proofs.WrittenLaws.{never, if-some, run-word, run-right, bytes-read}

@@ -13,7 +13,7 @@ use Rattle.table.specs.declared.Kind.{Kind}
 use Rattle.table.specs.Entries.{Entry, kindNumber}
 use Rattle.table.specs.Tables.{Table, isTable}
 use Rattle.table.specs.Memory.{kindFrom}
-use Rattle.table.specs.Carrying.{isRun, maxNumber}
+use Rattle.records.specs.Numbers.{isRun, maxNumber}
 use Rattle.records.specs.Records.{actUnit, wordOf, runWord, pathWords, isRunWord, lowOfWord, numberBits, Read, bytesFrom, ifResolved}
 
 -- a table of a run, and the number of the last change that it has, 0 if it has none
@@ -63,9 +63,13 @@ imageWords i =
     ∷ tableWord (i .table .switches) (i .table .marks) (length (i .table .entries))
     ∷ allEntryWords (i .table .entries)
 
+-- the words before the first entry's: run, number, and switches, marks and count
+abbrev pub imageHead : ℕ
+imageHead = 3
+
 -- the words that a table's image takes, whatever its run and its number
 unfoldable pub imageSize : Table → ℕ
-imageSize t = 3 + length (allEntryWords (t .entries))
+imageSize t = imageHead + length (allEntryWords (t .entries))
 
 -- no image takes more: `few-words`
 abbrev pub maxImage : ℕ

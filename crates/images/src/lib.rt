@@ -19,6 +19,9 @@ const TABLE_UNIT: u32 = 0x2_0000;
 
 const ENTRY_UNIT: u32 = 0x4_0000;
 
+// The words before the first entry's.
+const IMAGE_HEAD: usize = 3;
+
 // What reading an entry answers: its kind, how many bytes its path has in the lent space, and where the words behind it begin; or that the
 // words are malformed.
 pub enum EntryRead {

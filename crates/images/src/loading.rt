@@ -1,5 +1,6 @@
 // Loading the table of an image into lent memory. The image was read before, so that nothing is written of one that is malformed.
 use crate::EntryRead;
+use crate::IMAGE_HEAD;
 use crate::reading::read_entry;
 use paths::MAX_PATH;
 use table::TABLE_HEAD;
@@ -19,7 +20,7 @@ pub fn load_table(words: &[u32], switches: u8, marks: u8, count: usize, mem: &mu
     ensures { λ _. ⌜ now (mem .exit) ≡ loadedBy (readImage (now (words .entry))) (now (mem .entry)) ⌝ }
 {
     let mut space = [0u8; MAX_PATH];
-    let mut from: usize = 3;
+    let mut from: usize = IMAGE_HEAD;
     let mut at: usize = TABLE_HEAD;
     let mut left = count;
     while left > 0 {

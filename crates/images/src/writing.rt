@@ -1,5 +1,6 @@
 // Writing the image of a table: how many words it takes, and the words.
 use crate::ENTRY;
+use crate::IMAGE_HEAD;
 use crate::NUMBER;
 use crate::TABLE;
 use records::RUN;
@@ -17,7 +18,7 @@ ghost use lib.ListN.{length};
 ghost use Rattle.paths.specs.Copying.{begun, Appends};
 ghost use Rattle.paths.specs.Resolving.{maxPath};
 ghost use Rattle.table.specs.Memory.{tableOf, holds};
-ghost use Rattle.table.specs.Carrying.{maxRun, maxNumber};
+ghost use Rattle.records.specs.Numbers.{maxRun, maxNumber};
 ghost use Rattle.images.specs.Images.{entryWords, imageWords, imageSize, maxImage};
 
 // How many words the image of a table takes.
@@ -25,7 +26,7 @@ pub fn image_size(mem: &[u8]) -> usize
     requires { ⌜ holds (now mem) ≡ true ⌝ }
     ensures { λ r. ⌜ (r ≡ imageSize (tableOf (now (mem .entry)))) × (r ≤ maxImage) ⌝ }
 {
-    let mut size: usize = 3;
+    let mut size: usize = IMAGE_HEAD;
     let mut cursor = reading::first(mem);
     while reading::is_at_entry(cursor) {
         let n = reading::path(mem, cursor).len();
@@ -55,7 +56,7 @@ pub fn write_image(mem: &[u8], run: u32, number: u64, words: &mut [u32])
         + reading::marks(mem) as u32 * 32
         + reading::switches(mem) as u32;
     words[2] = word_of(TABLE, low);
-    let mut at: usize = 3;
+    let mut at: usize = IMAGE_HEAD;
     let mut cursor = reading::first(mem);
     while reading::is_at_entry(cursor) {
         at = write_entry(

@@ -1,55 +1,55 @@
--- Steps of the linked calls: an act that is carried out and sent, a revoke of what is resolved, and the items of a child call.
-use Prim.Native.Nat.{ℕ, _+_, _<_, _≤_}
+-- Steps of a call that may be linked: an act that is carried out and, where the call is linked, recorded.
+use Prim.Native.Nat.{ℕ, _+_, _≤_}
 use mathlib.Core.Path.{_≡_}
 use mathlib.Core.List.{List}
 use mathlib.Core.Option.{Option, none, some}
-use mathlib.Core.Bool.{Bool, true, false}
+use mathlib.Core.Bool.{Bool, true, false, cond}
 use lib.ListN.{length}
 use Rattle.refusals.specs.declared.Refusal.{Refusal}
-use Rattle.refusals.specs.Refusals.{ok}
+use Rattle.refusals.specs.declared.Refusal.the-variants.{TableFull, NumbersUsedUp}
 use Rattle.paths.specs.Copying.{Appends}
-use Rattle.paths.specs.Giving.{Query}
-use Rattle.table.specs.declared.Numbering.the-variants.{After}
+use Rattle.table.specs.declared.Outcome.{Outcome}
 use Rattle.table.specs.declared.Outcome.the-variants as outcome
-use Rattle.table.specs.Acts.{Act}
-use Rattle.table.specs.Memory.{tableOf}
-use Rattle.table.specs.Carrying.{isRun, maxNumber, carryCause, actsOf, outcomeOf, fits}
-use Rattle.table.specs.Calls.{recordSpace}
-use Rattle.walk.specs.declared.Answer.the-variants as answer
-use Rattle.calls.specs.declared.PromptResponse.{PromptResponse}
-use Rattle.calls.specs.Calls.{carriedOut, answerIn, actsIn, revokeDesc}
-use Rattle.child.specs.Arguments.{knownResponses, Item}
-use Rattle.child.specs.Making.{Made, itemStep, allItems}
-use Rattle.child.specs.Steps.{madeDone, madeRefused, Makes}
-use Rattle.records.specs.Records.{numbered, allWords}
+use Rattle.table.specs.Tables.{Table}
+use Rattle.table.specs.Acts.{Act, actOverflows}
+use Rattle.table.specs.Memory.{tableOf, doActs}
+use Rattle.table.specs.Carrying.{actsOf, outcomeOf}
+use Rattle.records.specs.Numbers.{isRun, recordSpace}
+use Rattle.records.specs.Records.{allWords}
+use Rattle.link.specs.declared.Link.{Link}
+use Rattle.link.specs.declared.Link.the-variants.{Linked}
 use Rattle.link.specs.declared.Sent.{Sent}
 use Rattle.link.specs.declared.ImageSent.{ImageSent}
-use Rattle.link.specs.declared.AskSent.{AskSent}
-use Rattle.link.specs.declared.RevokeSent.{RevokeSent}
-use Rattle.link.specs.declared.ChildSent.{ChildSent}
-use Rattle.link.specs.Sending.{Sends}
-
--- ---- one act
+use Rattle.link.specs.Linking.{lacksRoom, lacksRun, numbering, carryCause}
+use Rattle.link.specs.Sending.{changesOf, Lent}
 
 unfoldable pub isNone : Option Act → Bool
 isNone none = true
 isNone (some act) = false
 
--- an act that can be sent, if there is one: it can be recorded, its run is known, a number is left for it, and the record space has room from `at` on
-pub record Sendable (run n : ℕ) (act : Option Act) (w : List ℕ) (at : ℕ) : Type 0 where
-  pub fitting : fits act ≡ true
-  pub known : isRun run ≡ true
-  pub room : at + recordSpace ≤ length w
-  pub left : isNone act ≡ false → n < maxNumber
+-- the link's tests of a call of k items are passed
+pub record Admits (k : ℕ) (link : Link) (w : List ℕ) : Type 0 where
+  pub roomy : lacksRoom k link w ≡ false
+  pub run : lacksRun link ≡ false
 
--- acts of the run are numbered on from n, and their records stand from `at` on and end at r
-pub record Records (acts : List Act) (run n : ℕ) (w : List ℕ) (at n′ : ℕ) (w′ : List ℕ) (r : ℕ) : Type 0 where
-  pub number : n′ ≡ n + length acts
-  pub words : Appends (allWords (numbered run n acts)) w at w′ r
+-- a linked call has a known run, and room for a record from `at` on
+pub record Ready (link : Link) (w : List ℕ) (at : ℕ) : Type 0 where
+  pub known : (run : ℕ) → link ≡ Linked run → isRun run ≡ true
+  pub room : (run : ℕ) → link ≡ Linked run → at + recordSpace ≤ length w
 
--- one act, if there is one
+-- what an act comes to where no number is left
+unfoldable pub noNumber : Table → Option Act → Outcome
+noNumber t none = outcome.Done
+noNumber t (some act) = cond (actOverflows t act) (outcome.Refused TableFull) (outcome.Refused NumbersUsedUp)
+
+-- acts are recorded, if the call is linked, from `at` on; their records end at r
+pub record Records (link : Link) (acts : List Act) (n : ℕ) (w : List ℕ) (at n′ : ℕ) (w′ : List ℕ) (r : ℕ) : Type 0 where
+  pub number : n′ ≡ n + length (changesOf link n acts)
+  pub words : Appends (allWords (changesOf link n acts)) w at w′ r
+
+-- one act of a run, if there is one
 pub record SendsAt (act : Option Act) (run n : ℕ) (w : List ℕ) (at n′ : ℕ) (w′ : List ℕ) (r : ℕ) : Type 0 where
-  pub records : Records (actsOf none act) run n w at n′ w′ r
+  pub records : Records (Linked run) (actsOf none act) n w at n′ w′ r
   pub few : r ≤ at + recordSpace
 
 abbrev pub refusedSent : Refusal → Sent
@@ -58,41 +58,13 @@ refusedSent cause = record { outcome = outcome.Refused cause; words = 0 }
 abbrev pub refusedImage : Refusal → ℕ → ImageSent
 refusedImage cause words = record { outcome = outcome.Refused cause; words = words }
 
-abbrev pub refusedRevoke : Refusal → RevokeSent
-refusedRevoke cause = record { answer = answer.Refused cause; words = 0 }
+-- why an act on what is lent is refused, if it is
+abbrev pub causeOn : Link → Lent → Option Act → Option Refusal
+causeOn link l act = carryCause (numbering link (l .number)) (tableOf (l .memory)) act
 
-abbrev pub refusedAskSent : Refusal → AskSent
-refusedAskSent cause = record { answered = record { answer = answer.Refused cause; asked = false; text = 0 }; words = 0 }
-
--- an act is carried out and recorded, or refused by 8 or 9
-pub record Performs (act : Option Act) (m : List ℕ) (run n : ℕ) (w m′ : List ℕ) (n′ : ℕ) (w′ : List ℕ) (r : Sent) : Type 0 where
-  pub outcome : r .outcome ≡ outcomeOf (carryCause (After n) (tableOf m) act)
-  pub sends : Sends run n (actsOf (carryCause (After n) (tableOf m) act) act) m w m′ n′ w′ (r .words)
-
--- a revoke of what is resolved
-pub record PerformsRevoke (q : Query) (m : List ℕ) (run n : ℕ) (w m′ : List ℕ) (n′ : ℕ) (w′ : List ℕ) (r : RevokeSent) : Type 0 where
-  pub answer : r .answer ≡ answerIn (carriedOut (After n) (tableOf m) (revokeDesc (tableOf m) q))
-  pub sends : Sends run n (actsIn (carriedOut (After n) (tableOf m) (revokeDesc (tableOf m) q))) m w m′ n′ w′ (r .words)
-
--- ---- the items of a child call
-
-abbrev pub childDone : ℕ → ℕ → ChildSent
-childDone asked words = record { made = madeDone asked; words = words }
-
-abbrev pub childRefused : Refusal → ℕ → ℕ → ChildSent
-childRefused cause asked words = record { made = madeRefused cause asked; words = words }
-
--- what is made of the memories m and c, and the records of the acts on the parent
-pub record MakesSent (made : Made) (m c : List ℕ) (run n : ℕ) (w : List ℕ) (at : ℕ) (m′ c′ : List ℕ) (n′ : ℕ) (w′ : List ℕ) (r : ChildSent) : Type 0 where
-  pub makes : Makes made m c m′ c′ (r .made)
-  pub records : Records (made .acts) run n w at n′ w′ (r .words)
-
--- one item, with its answer: it takes one record's space at most
-pub record SendsItem (cwd : List ℕ) (item : Item) (m c : List ℕ) (run n : ℕ) (w : List ℕ) (at : ℕ) (m′ c′ : List ℕ) (n′ : ℕ) (w′ : List ℕ) (r : ChildSent) : Type 0 where
-  pub sent : MakesSent (itemStep (After n) cwd item (tableOf m) (tableOf c)) m c run n w at m′ c′ n′ w′ r
+-- an act is carried out and, if the call is linked, recorded from `at` on; or refused by 8 or 9
+pub record Performs (link : Link) (act : Option Act) (l : Lent) (at : ℕ) (l′ : Lent) (r : Sent) : Type 0 where
+  pub outcome : r .outcome ≡ outcomeOf (causeOn link l act)
+  pub memory : l′ .memory ≡ doActs (l .memory) (actsOf (causeOn link l act) act)
+  pub records : Records link (actsOf (causeOn link l act) act) (l .number) (l .words) at (l′ .number) (l′ .words) (r .words)
   pub few : r .words ≤ at + recordSpace
-
--- the items that come of the answers, where all of them are known
-abbrev pub SendsItems : List ℕ → (List PromptResponse → List Item) → List ℕ → List ℕ → List ℕ → ℕ → ℕ → List ℕ → List ℕ → List ℕ → ℕ → List ℕ → ChildSent → Type 0
-SendsItems cwd items responses m c run n w m′ c′ n′ w′ r = (known : List PromptResponse) → knownResponses responses ≡ ok known
-    → MakesSent (allItems (After n) cwd (items known) (tableOf m) (tableOf c)) m c run n w 0 m′ c′ n′ w′ r

@@ -16,11 +16,13 @@ use Rattle.table.specs.declared.Kind.the-variants.{G, P}
 use Rattle.table.specs.Tables.{Table, has, prompt, granted, flagIgnored}
 use Rattle.table.specs.Acts.{Act, insert, applyAct, applyActs}
 use Rattle.table.specs.Memory.{tableOf, holds, doActs}
-use Rattle.table.specs.Carrying.{Link, actsOf}
-use Rattle.table.specs.Calls.{linkIn}
+use Rattle.table.specs.Carrying.{actsOf}
 use Rattle.table.proofs.BitLaws.{bit-kept}
 use Rattle.table.proofs.ActLaws.{Acted}
 use Rattle.table.proofs.CallLaws.{hands-table}
+use Rattle.link.specs.declared.Link.{Link}
+use Rattle.link.specs.Linking.{roomIn, runIn}
+use Rattle.link.specs.Sending.{Lent}
 use Rattle.walk.specs.declared.PermissionState.{PermissionState}
 use Rattle.walk.specs.declared.PermissionState.the-variants.{
   Granted,
@@ -33,13 +35,13 @@ use Rattle.walk.specs.declared.PermissionState.the-variants.{
 use Rattle.walk.specs.declared.AllowPartial.{AllowPartial}
 use Rattle.walk.specs.declared.AllowPartial.the-variants.{TreatAsPartialGranted}
 use Rattle.walk.specs.Walk.{matchesKind, matches, isDeniedMode, isDenied, withoutMatch, queryDesc, isAllowAll}
-use Rattle.calls.specs.declared.PromptResponse.{PromptResponse}
-use Rattle.calls.specs.declared.PromptResponse.the-variants.{Deny, Allow, AllowAll}
-use Rattle.calls.specs.declared.ResponseRead.{ResponseRead}
-use Rattle.calls.specs.declared.ResponseRead.the-variants.{Response, Unknown}
-use Rattle.calls.specs.declared.Call.{Call}
-use Rattle.calls.specs.declared.Call.the-variants.{Check, Request}
-use Rattle.calls.specs.Decisions.{
+use Rattle.deciding.specs.declared.PromptResponse.{PromptResponse}
+use Rattle.deciding.specs.declared.PromptResponse.the-variants.{Deny, Allow, AllowAll}
+use Rattle.deciding.specs.declared.ResponseRead.{ResponseRead}
+use Rattle.deciding.specs.declared.ResponseRead.the-variants.{Response, Unknown}
+use Rattle.deciding.specs.declared.Call.{Call}
+use Rattle.deciding.specs.declared.Call.the-variants.{Check, Request}
+use Rattle.deciding.specs.Decisions.{
   responseOf,
   knownResponse,
   switchOn,
@@ -55,8 +57,13 @@ use Rattle.calls.specs.Decisions.{
   requestBy,
   requestDesc,
   decide,
+  revokeAct,
+  revokeDesc,
 }
-use Rattle.calls.specs.Calls.{carriedOut, actsIn, askedIn, settled, textSpace, askCall, revokeAct, revokeDesc, revokeCall}
+use Rattle.deciding.specs.Questions.{textSpace}
+use Rattle.calls.specs.declared.Asked.{Asked}
+use Rattle.calls.specs.declared.Revoked.{Revoked}
+use Rattle.calls.specs.Calls.{carriedOut, decidedActs, askedIn, settled, About, about, askCall, Asks, revokeCall, Revokes}
 use Rattle.calls.proofs.KeepLaws.{ask-acted, revoke-acted}
 use Rattle.calls.proofs.AskLaws.{ask-no-table}
 use Rattle.operator.specs.Operator.{isOpen, stateOf, Shut, Open, saysNo, Answered, IsYes}
@@ -195,34 +202,40 @@ record DecidedBy (t : Table) (q : Query) (response : ℕ) (decision : Decision) 
   comes : Comes t q answer (decision .asked) (decision .act)
 
 -- a revoke
-Revoked : Query → Decision → Type 0
-Revoked q decision = decision .act ≡ some (revokeAct q)
+IsRevoke : Query → Decision → Type 0
+IsRevoke q decision = decision .act ≡ some (revokeAct q)
 
-module _ (link : Link) (m : List ℕ) (d : Descriptor) (p cwd : List ℕ) (h : holds m ≡ true) where
-  ask-comes : (call : Call) (s : List ℕ) (response : ℕ) → Hands (DecidedBy (tableOf m) (queryOf d (resolve p cwd)) response) (askCall call link m s d p cwd response)
+-- what a call is about
+abbrev queryAbout : About → Query
+queryAbout a = queryOf (a .descriptor) (resolve (a .given) (a .cwd))
+
+module _ (link : Link) (l : Lent) (a : About) (h : holds (l .memory) ≡ true) where
+  ask-comes : (call : Call) (s : List ℕ) (response : ℕ) → Hands (DecidedBy (tableOf (l .memory)) (queryAbout a) response) (askCall call link l s a response)
   unfolding askCall settled carriedOut
   ask-comes call s response =
-      hands-table m _ h (
+      hands-table (l .memory) _ h (
       hands-then (hands-itself (textSpace s)) (λ space _.
-      hands-then (hands-itself (linkIn 1 link)) (λ numbers _.
+      hands-then (hands-itself (roomIn 1 link (l .words))) (λ room _.
+      hands-then (hands-itself (runIn link (l .number))) (λ numbers _.
       hands-then (known-is (responseOf response)) (λ answer known.
-      hands-then (given-is d p cwd) (λ q e.
-      hands-unless _ _ (λ _. record { answer = answer; known = known; comes = rw e (decided (tableOf m) q answer call) }))))))
+      hands-then (given-is (a .descriptor) (a .given) (a .cwd)) (λ q e.
+      hands-unless _ _ (λ _. record { answer = answer; known = known; comes = rw e (decided (tableOf (l .memory)) q answer call) })))))))
 
-  revoke-comes : Hands (Revoked (queryOf d (resolve p cwd))) (revokeCall link m d p cwd)
-  unfolding revokeCall carriedOut revokeDesc Revoked
+  revoke-comes : Hands (IsRevoke (queryAbout a)) (revokeCall link l a)
+  unfolding revokeCall carriedOut revokeDesc IsRevoke
   revoke-comes =
-      hands-table m _ h (
-      hands-then (hands-itself (linkIn 1 link)) (λ numbers _.
-      hands-then (given-is d p cwd) (λ q e.
-      hands-unless _ _ (λ _. rw e))))
+      hands-table (l .memory) _ h (
+      hands-then (hands-itself (roomIn 1 link (l .words))) (λ room _.
+      hands-then (hands-itself (runIn link (l .number))) (λ numbers _.
+      hands-then (given-is (a .descriptor) (a .given) (a .cwd)) (λ q e.
+      hands-unless _ _ (λ _. rw e)))))
 
 -- ---- and what they leave, by their acts
 
 module _ (t : Table) (p : List ℕ) where
   acts-shut : {c : Result Decision} → IsShut t p → Hands (λ decision. IsShut (applyActs t (actsOf none (decision .act))) p) c
-      → IsShut (applyActs t (actsIn c)) p
-  unfolding actsIn applyActs
+      → IsShut (applyActs t (decidedActs c)) p
+  unfolding decidedActs applyActs
   acts-shut shut stops = shut
   acts-shut shut (hands x) = x
 
@@ -232,53 +245,51 @@ module _ (t : Table) (p : List ℕ) where
   answers-shut shut f stops = stops
   answers-shut shut f (hands A) = hands (comes-shut t p shut (A .comes) (λ e. f e (A .answer) (A .known)))
 
-  revoked-acts : (q : Query) {c : Result Decision} → IsShut t p → Hands (Revoked q) c
+  revoked-acts : (q : Query) {c : Result Decision} → IsShut t p → Hands (IsRevoke q) c
       → Hands (λ decision. IsShut (applyActs t (actsOf none (decision .act))) p) c
-  unfolding Revoked actsOf applyActs
+  unfolding IsRevoke actsOf applyActs
   revoked-acts q shut stops = stops
   revoked-acts q shut (hands {x = decision} e) = hands {x = decision} (rw e (revoked-shut t p shut q))
 
   answers-open : {response : ℕ} {c : Result Decision} → Hands (DecidedBy t (path p) response) c → askedIn c ≡ true → responseOf response ≡ Response Allow
-      → IsOpen (applyActs t (actsIn c)) p
-  unfolding askedIn actsIn
+      → IsOpen (applyActs t (decidedActs c)) p
+  unfolding askedIn decidedActs
   answers-open stops a e = absurd (false≢true a)
   answers-open (hands A) a e = let allow : A .answer ≡ Allow = cc (A .known, e) in comes-open (rw allow at (A .comes)) a
 
-module _ {p m m′ : List ℕ} (c : Result Decision) (A : Acted m (actsIn c)) (e : m′ ≡ doActs m (actsIn c)) where
-  left-shut : IsShut (applyActs (tableOf m) (actsIn c)) p → Shut p m′
+module _ {p m m′ : List ℕ} (c : Result Decision) (A : Acted m (decidedActs c)) (e : m′ ≡ doActs m (decidedActs c)) where
+  left-shut : IsShut (applyActs (tableOf m) (decidedActs c)) p → Shut p m′
   left-shut x = record { holding = rw e (A .holding); state = rw (e, A .table) x }
 
-  left-open : IsOpen (applyActs (tableOf m) (actsIn c)) p → Open p m′
+  left-open : IsOpen (applyActs (tableOf m) (decidedActs c)) p → Open p m′
   left-open x = record { holding = rw e (A .holding); state = rw (e, A .table) x }
 
-module _ (call : Call) (link : Link) (m s : List ℕ) (d : Descriptor) (p cwd : List ℕ) (response : ℕ) where
-  abbrev c : Result Decision
-  c = askCall call link m s d p cwd response
+-- a call that asked was lent a table
+asked-held : (call : Call) (link : Link) (l : Lent) (s : List ℕ) (a : About) (response : ℕ) (b : Bool) → holds (l .memory) ≡ b
+    → askedIn (askCall call link l s a response) ≡ true → holds (l .memory) ≡ true
+unfolding askedIn
+asked-held call link l s a response true h asked = h
+asked-held call link l s a response false h asked = absurd (false≢true (rw (ask-no-table call link l s a response h) at asked))
 
-  pub ask-shut : {x m′ : List ℕ} {asked : Bool} → m′ ≡ doActs m (actsIn c) → asked ≡ askedIn c
-      → Answered (saysNo x) asked (queryOf d (resolve p cwd)) response → Shut x m → Shut x m′
-  ask-shut e a f S =
-      left-shut c (ask-acted call link m s d p cwd response (S .holding)) e
-      (acts-shut (tableOf m) _ (S .state) (answers-shut (tableOf m) _ (S .state) (λ k. f (a ∙ k)) (ask-comes link m d p cwd (S .holding) call s response)))
+pub ask-shut : {p : List ℕ} {call : Call} {link : Link} {l : Lent} {s : List ℕ} {a : About} {response : ℕ} {l′ : Lent} {s′ : List ℕ} {r : Asked}
+    → Asks call link l s a response l′ s′ r → Answered (saysNo p) (r .asked) (queryAbout a) response → Shut p (l .memory) → Shut p (l′ .memory)
+ask-shut {p} {call} {link} {l} {s} {a} {response} A f S =
+    let t = tableOf (l .memory) in
+    left-shut _ (ask-acted call link l s a response (S .holding)) (A .sends .memory)
+    (acts-shut t p (S .state) (answers-shut t p (S .state) (λ k. f (A .answers .asked ∙ k)) (ask-comes link l a (S .holding) call s response)))
 
-  -- a call that asked was lent a table
-  asked-held : (b : Bool) → holds m ≡ b → askedIn c ≡ true → holds m ≡ true
-  unfolding askedIn
-  asked-held true h a = h
-  asked-held false h a = absurd (false≢true (rw (ask-no-table call link m s d p cwd response h) at a))
-
-pub ask-open : (call : Call) (link : Link) (m s p cwd : List ℕ) (response : ℕ) {x m′ : List ℕ} {asked : Bool}
-    → m′ ≡ doActs m (actsIn (askCall call link m s Path p cwd response)) → asked ≡ askedIn (askCall call link m s Path p cwd response)
-    → IsYes x p cwd asked response → Open x m′
+pub ask-open : {p : List ℕ} {call : Call} {link : Link} {l : Lent} {s given cwd : List ℕ} {response : ℕ} {l′ : Lent} {s′ : List ℕ} {r : Asked}
+    → Asks call link l s (about Path given cwd) response l′ s′ r → IsYes p given cwd (r .asked) response → Open p (l′ .memory)
 unfolding queryOf
-ask-open call link m s p cwd response e a Y =
-    let asked = sym a ∙ Y .told in
-    let h = asked-held call link m s Path p cwd response (holds m) refl asked in
-    left-open _ (ask-acted call link m s Path p cwd response h) e
-    (answers-open (tableOf m) _ (rw (Y .for) at (ask-comes link m Path p cwd h call s response)) asked (Y .answer))
+ask-open {p} {call} {link} {l} {s} {given} {cwd} {response} A Y =
+    let a = about Path given cwd in
+    let asked = sym (A .answers .asked) ∙ Y .told in
+    let h = asked-held call link l s a response _ refl asked in
+    left-open _ (ask-acted call link l s a response h) (A .sends .memory)
+    (answers-open (tableOf (l .memory)) p (rw (Y .for) at (ask-comes link l a h call s response)) asked (Y .answer))
 
-pub revoke-shut : (link : Link) (m : List ℕ) (d : Descriptor) (p cwd : List ℕ) {x m′ : List ℕ} → m′ ≡ doActs m (actsIn (revokeCall link m d p cwd))
-    → Shut x m → Shut x m′
-revoke-shut link m d p cwd e S =
-    left-shut _ (revoke-acted link m d p cwd (S .holding)) e
-    (acts-shut (tableOf m) _ (S .state) (revoked-acts (tableOf m) _ (queryOf d (resolve p cwd)) (S .state) (revoke-comes link m d p cwd (S .holding))))
+pub revoke-shut : {p : List ℕ} {link : Link} {l : Lent} {a : About} {l′ : Lent} {r : Revoked} → Revokes link l a l′ r → Shut p (l .memory) → Shut p (l′ .memory)
+revoke-shut {p} {link} {l} {a} R S =
+    let t = tableOf (l .memory) in
+    left-shut _ (revoke-acted link l a (S .holding)) (R .sends .memory)
+    (acts-shut t p (S .state) (revoked-acts t p (queryAbout a) (S .state) (revoke-comes link l a (S .holding))))

@@ -4,10 +4,12 @@ use mathlib.Core.List.{List}
 use mathlib.Core.Bool.{true, false, not}
 use Rattle.paths.specs.Relations.{isPrefix}
 use Rattle.paths.specs.Giving.{noPath, path}
-use Rattle.table.specs.declared.Outcome.{Outcome}
 use Rattle.table.specs.Entries.{samePath}
-use Rattle.table.specs.Calls.{Inserts, SetsSwitches}
-use Rattle.calls.specs.declared.PromptResponse.the-variants.{Deny, Allow, AllowAll}
+use Rattle.link.specs.declared.Link.the-variants.{Plain}
+use Rattle.link.specs.declared.Sent.{Sent}
+use Rattle.link.specs.Sending.{alone}
+use Rattle.deciding.specs.declared.PromptResponse.the-variants.{Deny, Allow, AllowAll}
+use Rattle.calls.specs.Changes.{SetsSwitches, Inserts}
 use Rattle.operator.specs.Operator.{Shut, Open, Operator, saysNo, promised, Step, KeepsShut}
 
 -- ---- the operator of `saysNo`, but for one answer
@@ -33,17 +35,17 @@ allowsAll p noPath Allow = false
 allowsAll p (path q) Allow = not (isPrefix q p)
 allowsAll p q AllowAll = true
 
--- ---- a script, beside which someone makes one call more
+-- ---- a script, beside which someone makes one plain call more
 
 -- inserts an entry directly
 pub data OrInserts (p m m′ : List ℕ) : Type 0 where
   script : Step promised (saysNo p) m m′ → OrInserts p m m′
-  inserts : (kind : ℕ) (given cwd : List ℕ) (r : Outcome) → Inserts m kind given cwd m′ r → OrInserts p m m′
+  inserts : (kind : ℕ) (given cwd : List ℕ) (r : Sent) → Inserts Plain (alone m) kind given cwd (alone m′) r → OrInserts p m m′
 
 -- sets switches
 pub data OrSwitches (p m m′ : List ℕ) : Type 0 where
   script : Step promised (saysNo p) m m′ → OrSwitches p m m′
-  switches : (v : ℕ) (r : Outcome) → SetsSwitches m v m′ r → OrSwitches p m m′
+  switches : (v : ℕ) (r : Sent) → SetsSwitches Plain (alone m) v (alone m′) r → OrSwitches p m m′
 
 -- ---- what `proofs/Needed.antt` shows
 

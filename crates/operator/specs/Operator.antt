@@ -7,13 +7,14 @@ use mathlib.Core.Path.{_≡_}
 use mathlib.Core.List.{List}
 use mathlib.Core.Bool.{Bool, true, false, not}
 use Rattle.refusals.specs.Refusals.{ok}
-use Rattle.paths.specs.declared.Descriptor.{Descriptor}
 use Rattle.paths.specs.declared.Descriptor.the-variants.{Path}
 use Rattle.paths.specs.Resolving.{resolve}
 use Rattle.paths.specs.Relations.{isPrefix}
 use Rattle.paths.specs.Giving.{Query, noPath, path, queryOf, resolved}
 use Rattle.table.specs.Tables.{Table}
 use Rattle.table.specs.Memory.{tableOf, holds}
+use Rattle.link.specs.declared.Link.{Link}
+use Rattle.link.specs.Sending.{Lent, lent}
 use Rattle.walk.specs.declared.PermissionState.{PermissionState}
 use Rattle.walk.specs.declared.PermissionState.the-variants.{
   Granted,
@@ -28,16 +29,14 @@ use Rattle.walk.specs.declared.Answer.{Answer}
 use Rattle.walk.specs.declared.Answer.the-variants.{State}
 use Rattle.walk.specs.Walk.{modeNumber, queryDesc}
 use Rattle.walk.specs.Calls.{queryAnswer}
-use Rattle.calls.specs.declared.PromptResponse.{PromptResponse}
-use Rattle.calls.specs.declared.PromptResponse.the-variants.{Deny, Allow, AllowAll}
-use Rattle.calls.specs.declared.ResponseRead.the-variants.{Response}
-use Rattle.calls.specs.declared.Call.{Call}
+use Rattle.deciding.specs.declared.PromptResponse.{PromptResponse}
+use Rattle.deciding.specs.declared.PromptResponse.the-variants.{Deny, Allow, AllowAll}
+use Rattle.deciding.specs.declared.ResponseRead.the-variants.{Response}
+use Rattle.deciding.specs.declared.Call.{Call}
+use Rattle.deciding.specs.Decisions.{responseOf}
 use Rattle.calls.specs.declared.Asked.{Asked}
-use Rattle.calls.specs.Decisions.{responseOf}
-use Rattle.calls.specs.Calls.{Asks, Revokes}
-use Rattle.link.specs.declared.AskSent.{AskSent}
-use Rattle.link.specs.declared.RevokeSent.{RevokeSent}
-use Rattle.link.specs.Linked.{LinkedAsks, LinkedRevokes}
+use Rattle.calls.specs.declared.Revoked.{Revoked}
+use Rattle.calls.specs.Calls.{About, about, Asks, Revokes}
 
 -- ---- the path
 
@@ -82,42 +81,32 @@ saysNo p q AllowAll = false
 abbrev pub Answered : Operator → Bool → Query → ℕ → Type 0
 Answered operator asked q response = asked ≡ true → (answer : PromptResponse) → responseOf response ≡ Response answer → operator q answer ≡ true
 
--- ---- what the calls promise: check and request, revoke, and the linked ones
+-- ---- what the calls promise: check and request, and revoke, plain or linked
 
 pub record Promises : Type 1 where
-  pub asks : (call : Call) (m s : List ℕ) (d : Descriptor) (p cwd : List ℕ) (response : ℕ) (m′ s′ : List ℕ) (r : Asked) → Type 0
-  pub revokes : (m : List ℕ) (d : Descriptor) (p cwd m′ : List ℕ) (r : Answer) → Type 0
-  pub linkedAsks : (call : Call) (m : List ℕ) (run n : ℕ) (s w : List ℕ) (d : Descriptor) (p cwd : List ℕ) (response : ℕ) (m′ : List ℕ) (n′ : ℕ)
-      (s′ w′ : List ℕ) (r : AskSent) → Type 0
-  pub linkedRevokes : (m : List ℕ) (run n : ℕ) (w : List ℕ) (d : Descriptor) (p cwd m′ : List ℕ) (n′ : ℕ) (w′ : List ℕ) (r : RevokeSent) → Type 0
+  pub asks : (call : Call) (link : Link) (l : Lent) (s : List ℕ) (a : About) (response : ℕ) (l′ : Lent) (s′ : List ℕ) (r : Asked) → Type 0
+  pub revokes : (link : Link) (l : Lent) (a : About) (l′ : Lent) (r : Revoked) → Type 0
 
 -- the calls' own
 abbrev pub promised : Promises
-promised = record { asks = Asks; revokes = Revokes; linkedAsks = LinkedAsks; linkedRevokes = LinkedRevokes }
+promised = record { asks = Asks; revokes = Revokes }
 
 -- ---- the script
 
 -- One call of the script, plain or linked, with a path or without, by what it promises: memory m becomes m′, with whatever it is lent and handed, refused or not.
+-- A linked call is handed any run number, after any number n and with any record space w.
 pub data Step (P : Promises) (operator : Operator) (m m′ : List ℕ) : Type 0 where
   -- a query is lent the memory for reading alone
-  queries : (mode : ℕ) (d : Descriptor) (given cwd : List ℕ) (r : Answer) → r ≡ queryAnswer m mode d given cwd
+  queries : (mode : ℕ) (a : About) (r : Answer) → r ≡ queryAnswer m mode (a .descriptor) (a .given) (a .cwd)
       → m′ ≡ m
       → Step P operator m m′
   -- check and request
-  asks : (call : Call) (s : List ℕ) (d : Descriptor) (given cwd : List ℕ) (response : ℕ) (s′ : List ℕ) (r : Asked)
-      → P .asks call m s d given cwd response m′ s′ r
-      → Answered operator (r .asked) (queryOf d (resolve given cwd)) response
+  asks : (call : Call) (link : Link) (n : ℕ) (w s : List ℕ) (a : About) (response n′ : ℕ) (w′ s′ : List ℕ) (r : Asked)
+      → P .asks call link (lent m n w) s a response (lent m′ n′ w′) s′ r
+      → Answered operator (r .asked) (queryOf (a .descriptor) (resolve (a .given) (a .cwd))) response
       → Step P operator m m′
-  revokes : (d : Descriptor) (given cwd : List ℕ) (r : Answer)
-      → P .revokes m d given cwd m′ r
-      → Step P operator m m′
-  -- the same linked, handed any run number, after any number n and with any record space w
-  linkedAsks : (call : Call) (run n : ℕ) (s w : List ℕ) (d : Descriptor) (given cwd : List ℕ) (response n′ : ℕ) (s′ w′ : List ℕ) (r : AskSent)
-      → P .linkedAsks call m run n s w d given cwd response m′ n′ s′ w′ r
-      → Answered operator (r .answered .asked) (queryOf d (resolve given cwd)) response
-      → Step P operator m m′
-  linkedRevokes : (run n : ℕ) (w : List ℕ) (d : Descriptor) (given cwd : List ℕ) (n′ : ℕ) (w′ : List ℕ) (r : RevokeSent)
-      → P .linkedRevokes m run n w d given cwd m′ n′ w′ r
+  revokes : (link : Link) (n : ℕ) (w : List ℕ) (a : About) (n′ : ℕ) (w′ : List ℕ) (r : Revoked)
+      → P .revokes link (lent m n w) a (lent m′ n′ w′) r
       → Step P operator m m′
 
 -- steps one after the other, from memory m on
@@ -133,15 +122,11 @@ pub record IsYes (p given cwd : List ℕ) (asked : Bool) (response : ℕ) : Type
   pub told : asked ≡ true
   pub answer : responseOf response ≡ Response Allow
 
--- a check or request for p that got a yes: memory m becomes m′
+-- a check or request for p, plain or linked, that got a yes: memory m becomes m′
 pub data Allowed (P : Promises) (p m m′ : List ℕ) : Type 0 where
-  allowed : (call : Call) (s given cwd : List ℕ) (response : ℕ) (s′ : List ℕ) (r : Asked)
-      → P .asks call m s Path given cwd response m′ s′ r
+  allowed : (call : Call) (link : Link) (n : ℕ) (w s given cwd : List ℕ) (response n′ : ℕ) (w′ s′ : List ℕ) (r : Asked)
+      → P .asks call link (lent m n w) s (about Path given cwd) response (lent m′ n′ w′) s′ r
       → IsYes p given cwd (r .asked) response
-      → Allowed P p m m′
-  linkedAllowed : (call : Call) (run n : ℕ) (s w given cwd : List ℕ) (response n′ : ℕ) (s′ w′ : List ℕ) (r : AskSent)
-      → P .linkedAsks call m run n s w Path given cwd response m′ n′ s′ w′ r
-      → IsYes p given cwd (r .answered .asked) response
       → Allowed P p m m′
 
 -- ---- the claim

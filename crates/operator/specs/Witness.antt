@@ -9,12 +9,14 @@ use Rattle.paths.specs.declared.Descriptor.the-variants.{NoPath, Path}
 use Rattle.table.specs.declared.Kind.the-variants.{G, D}
 use Rattle.table.specs.Tables.{Table}
 use Rattle.table.specs.Memory.{tableOf}
+use Rattle.link.specs.declared.Link.{Link}
+use Rattle.link.specs.declared.Link.the-variants.{Plain, Linked}
 use Rattle.walk.specs.declared.PermissionState.the-variants.{Granted, Prompt, Denied}
 use Rattle.walk.specs.declared.Answer.{Answer}
 use Rattle.walk.specs.declared.Answer.the-variants.{State, Refused}
 use Rattle.walk.specs.Cases.{bytes, entry}
-use Rattle.calls.specs.declared.Call.{Call}
-use Rattle.calls.specs.declared.Call.the-variants.{Check, Request}
+use Rattle.deciding.specs.declared.Call.{Call}
+use Rattle.deciding.specs.declared.Call.the-variants.{Check, Request}
 use Rattle.operator.specs.Operator.{
   Shut,
   Operator,
@@ -24,8 +26,6 @@ use Rattle.operator.specs.Operator.{
   queries,
   asks,
   revokes,
-  linkedAsks,
-  linkedRevokes,
   Script,
   start,
   thenCall,
@@ -36,17 +36,13 @@ use Rattle.operator.specs.Operator.{
 
 pub data Line : Type 0 where
   querying : ℕ → Descriptor → List ℕ → Answer → Line
-  asking : Call → Descriptor → List ℕ → ℕ → Bool → Answer → Line
-  revoking : Descriptor → List ℕ → Answer → Line
-  linkedAsking : Call → Descriptor → List ℕ → ℕ → Bool → Answer → Line
-  linkedRevoking : Descriptor → List ℕ → Answer → Line
+  asking : Link → Call → Descriptor → List ℕ → ℕ → Bool → Answer → Line
+  revoking : Link → Descriptor → List ℕ → Answer → Line
 
 unfoldable pub lineOf : {operator : Operator} {m m′ : List ℕ} → Step promised operator m m′ → Line
-lineOf (queries mode d p cwd r promise same) = querying mode d p r
-lineOf (asks call s d p cwd response s′ r promise answered) = asking call d p response (r .asked) (r .answer)
-lineOf (revokes d p cwd r promise) = revoking d p r
-lineOf (linkedAsks call run n s w d p cwd response n′ s′ w′ r promise answered) = linkedAsking call d p response (r .answered .asked) (r .answered .answer)
-lineOf (linkedRevokes run n w d p cwd n′ w′ r promise) = linkedRevoking d p (r .answer)
+lineOf (queries mode a r promise same) = querying mode (a .descriptor) (a .given) r
+lineOf (asks call link n w s a response n′ w′ s′ r promise answered) = asking link call (a .descriptor) (a .given) response (r .asked) (r .answer)
+lineOf (revokes link n w a n′ w′ r promise) = revoking link (a .descriptor) (a .given) (r .answer)
 
 unfoldable pub lines : {operator : Operator} {m m′ : List ℕ} → Script (Step promised operator) m m′ → List Line
 lines start = []
@@ -62,14 +58,14 @@ five = record { entries = entry G "/z/b" ∷ entry D "/z" ∷ entry G "/c" ∷ e
 -- it hands in AllowAll (2) where it is refused, and where nobody is asked; and it revokes, by a path and all.
 abbrev pub calls : List Line
 calls =
-    asking Request Path (bytes "/a") 0 true (State Denied)
-    ∷ asking Check Path (bytes "/a/b") 0 true (State Denied)
-    ∷ asking Request Path (bytes "/e") 1 true (State Granted)
-    ∷ asking Request Path [] 2 false (Refused EmptyPath)
-    ∷ linkedAsking Request NoPath [] 2 false (State Denied)
-    ∷ linkedAsking Check Path (bytes "/a/b/c") 1 true (State Granted)
-    ∷ linkedRevoking Path (bytes "/e") (State Prompt)
-    ∷ revoking NoPath [] (State Denied)
+    asking Plain Request Path (bytes "/a") 0 true (State Denied)
+    ∷ asking Plain Check Path (bytes "/a/b") 0 true (State Denied)
+    ∷ asking Plain Request Path (bytes "/e") 1 true (State Granted)
+    ∷ asking Plain Request Path [] 2 false (Refused EmptyPath)
+    ∷ asking (Linked 1) Request NoPath [] 2 false (State Denied)
+    ∷ asking (Linked 1) Check Path (bytes "/a/b/c") 1 true (State Granted)
+    ∷ revoking (Linked 1) Path (bytes "/e") (State Prompt)
+    ∷ revoking Plain NoPath [] (State Denied)
     ∷ querying 1 Path (bytes "/a/b") (State Denied)
     ∷ []
 

@@ -4,17 +4,18 @@ use mathlib.Core.Path.{_≡_}
 use mathlib.Core.List.{List}
 use mathlib.Core.Option.{none, some}
 use mathlib.Core.Bool.{Bool, true, false, _&&_, cond}
-use Rattle.refusals.specs.Refusals.{Result, ok, andThen}
-use Rattle.paths.specs.declared.Descriptor.{Descriptor}
+use Rattle.refusals.specs.Refusals.{Result, andThen, unless}
 use Rattle.paths.specs.Relations.{isPrefix}
 use Rattle.paths.specs.Giving.{Query, noPath, path, given}
 use Rattle.table.specs.declared.Kind.{Kind}
 use Rattle.table.specs.declared.Kind.the-variants.{G, D, P, I}
 use Rattle.table.specs.Tables.{Table, has, prompt, marksOf}
 use Rattle.table.specs.Acts.{without, applyAct}
-use Rattle.table.specs.Memory.{doActs}
-use Rattle.table.specs.Carrying.{plain}
-use Rattle.table.specs.Calls.{tableIn, linkIn, putIn}
+use Rattle.table.specs.Calls.{tableIn, putIn}
+use Rattle.link.specs.declared.Link.{Link}
+use Rattle.link.specs.Linking.{roomIn, runIn, carryCause}
+use Rattle.link.specs.Sending.{Lent, Sends}
+use Rattle.link.specs.Steps.{Records}
 use Rattle.walk.specs.declared.PermissionState.{PermissionState}
 use Rattle.walk.specs.declared.PermissionState.the-variants.{
   Granted,
@@ -25,17 +26,17 @@ use Rattle.walk.specs.declared.PermissionState.the-variants.{
   Ignored,
 }
 use Rattle.walk.specs.declared.AllowPartial.the-variants.{TreatAsPartialGranted}
-use Rattle.walk.specs.declared.Answer.{Answer}
 use Rattle.walk.specs.Walk.{queryDesc}
 use Rattle.walk.specs.Calls.{answerOf}
-use Rattle.calls.specs.declared.PromptResponse.{PromptResponse}
-use Rattle.calls.specs.declared.PromptResponse.the-variants.{Deny, Allow, AllowAll}
-use Rattle.calls.specs.declared.Call.{Call}
-use Rattle.calls.specs.declared.Call.the-variants.{Check, Request}
+use Rattle.deciding.specs.declared.PromptResponse.{PromptResponse}
+use Rattle.deciding.specs.declared.PromptResponse.the-variants.{Deny, Allow, AllowAll}
+use Rattle.deciding.specs.declared.Call.{Call}
+use Rattle.deciding.specs.declared.Call.the-variants.{Check, Request}
+use Rattle.deciding.specs.Decisions.{responseOf, knownResponse, grantAct, answerAct, Decision, stateBy, requestBy, decide, revokeAct}
+use Rattle.deciding.specs.Questions.{textSpace}
 use Rattle.calls.specs.declared.Asked.{Asked}
-use Rattle.calls.specs.Decisions.{responseOf, knownResponse, grantAct, answerAct, Decision, stateBy, requestBy, decide}
-use Rattle.calls.specs.Calls.{carriedOut, actsIn, textSpace, Answers, Asks, revokeAct, Revokes}
-use Rattle.link.specs.Linked.{LinkedAsks, LinkedRevokes}
+use Rattle.calls.specs.declared.Revoked.{Revoked}
+use Rattle.calls.specs.Calls.{carriedOut, decidedActs, About, Answers, Asks, revokeCall, Revokes}
 use Rattle.operator.specs.Operator.{Promises, Claim}
 
 -- ---- check and request
@@ -45,19 +46,21 @@ abbrev pub Deciding : Type 0
 Deciding = Call → Table → Query → PromptResponse → Decision
 
 -- the checking order, with `deciding` for the decision; `askCall` is the one with `decide`
-abbrev pub askCallBy : Deciding → Call → List ℕ → List ℕ → Descriptor → List ℕ → List ℕ → ℕ → Result Decision
-askCallBy deciding call m s d p cwd response =
-    andThen (tableIn m) (λ t.
+abbrev pub askCallBy : Deciding → Call → Link → Lent → List ℕ → About → ℕ → Result Decision
+askCallBy deciding call link l s a response =
+    andThen (tableIn (l .memory)) (λ t.
     andThen (textSpace s) (λ space.
-    andThen (linkIn 1 plain) (λ numbers.
+    andThen (roomIn 1 link (l .words)) (λ room.
+    andThen (runIn link (l .number)) (λ numbers.
     andThen (knownResponse (responseOf response)) (λ known.
-    andThen (given d p cwd) (λ q.
-    carriedOut numbers t (deciding call t q known))))))
+    andThen (given (a .descriptor) (a .given) (a .cwd)) (λ q.
+    carriedOut numbers t (deciding call t q known)))))))
 
 -- `Asks` is the one with `decide`
-pub record AsksBy (deciding : Deciding) (call : Call) (m s : List ℕ) (d : Descriptor) (p cwd : List ℕ) (response : ℕ) (m′ s′ : List ℕ) (r : Asked) : Type 0 where
-  pub answers : Answers (askCallBy deciding call m s d p cwd response) d p cwd s s′ r
-  pub memory : m′ ≡ doActs m (actsIn (askCallBy deciding call m s d p cwd response))
+pub record AsksBy (deciding : Deciding) (call : Call) (link : Link) (l : Lent) (s : List ℕ) (a : About) (response : ℕ) (l′ : Lent) (s′ : List ℕ) (r : Asked)
+    : Type 0 where
+  pub answers : Answers (askCallBy deciding call link l s a response) a s s′ r
+  pub sends : Sends link (decidedActs (askCallBy deciding call link l s a response)) l l′ (r .words)
 
 -- Deny inserts G
 unfoldable pub denyGrants : Deciding
@@ -112,16 +115,20 @@ allowNothing call t q AllowAll = decide call t q AllowAll
 abbrev pub Revoking : Type 0
 Revoking = Table → Query → Table
 
-abbrev pub revokedBy : Revoking → List ℕ → Descriptor → List ℕ → List ℕ → Result Table
-revokedBy revoking m d p cwd = andThen (tableIn m) (λ t. andThen (given d p cwd) (λ q. ok (revoking t q)))
+-- the checking order, and what it comes to, by the table and what is revoked; `revokeCall` is the one with `revokeDesc`
+abbrev pub revokeCallBy : {A : Type 0} → (Table → Query → A) → Link → Lent → About → Result A
+revokeCallBy by link l a =
+    andThen (tableIn (l .memory)) (λ t.
+    andThen (roomIn 1 link (l .words)) (λ room.
+    andThen (runIn link (l .number)) (λ numbers.
+    andThen (given (a .descriptor) (a .given) (a .cwd)) (λ q.
+    unless (carryCause numbers t (some (revokeAct q))) (by t q)))))
 
-abbrev pub stateAfter : Revoking → List ℕ → Descriptor → List ℕ → List ℕ → Result PermissionState
-stateAfter revoking m d p cwd = andThen (tableIn m) (λ t. andThen (given d p cwd) (λ q. ok (queryDesc (revoking t q) TreatAsPartialGranted q)))
-
--- `Revokes` is the one with `revokes`
-pub record RevokesBy (revoking : Revoking) (m : List ℕ) (d : Descriptor) (p cwd m′ : List ℕ) (r : Answer) : Type 0 where
-  pub answer : r ≡ answerOf (stateAfter revoking m d p cwd)
-  pub memory : m′ ≡ putIn (revokedBy revoking m d p cwd) m
+-- `Revokes` is the one with `revokes`; what is recorded is the act of a revoke
+pub record RevokesBy (revoking : Revoking) (link : Link) (l : Lent) (a : About) (l′ : Lent) (r : Revoked) : Type 0 where
+  pub answer : r .answer ≡ answerOf (revokeCallBy (λ t q. queryDesc (revoking t q) TreatAsPartialGranted q) link l a)
+  pub memory : l′ .memory ≡ putIn (revokeCallBy revoking link l a) (l .memory)
+  pub records : Records link (decidedActs (revokeCall link l a)) (l .number) (l .words) 0 (l′ .number) (l′ .words) (r .words)
 
 abbrev pub revokes : Revoking
 revokes t q = applyAct t (revokeAct q)
@@ -141,12 +148,12 @@ dropsDenied t (path q) =
 
 -- ---- what `proofs/Wrong.antt` shows
 
--- the calls' own promises, but for plain check and request, or for the plain revoke
+-- the calls' own promises, but for check and request, or for revoke
 abbrev pub asking : Deciding → Promises
-asking deciding = record { asks = AsksBy deciding; revokes = Revokes; linkedAsks = LinkedAsks; linkedRevokes = LinkedRevokes }
+asking deciding = record { asks = AsksBy deciding; revokes = Revokes }
 
 abbrev pub revoking : Revoking → Promises
-revoking by = record { asks = Asks; revokes = RevokesBy by; linkedAsks = LinkedAsks; linkedRevokes = LinkedRevokes }
+revoking by = record { asks = Asks; revokes = RevokesBy by }
 
 pub record RuledOut : Type 0 where
   pub deny-grants : Claim (asking denyGrants) → ⊥

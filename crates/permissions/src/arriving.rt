@@ -1,26 +1,12 @@
 // The standby's half of the link, for C: a record or an image that arrives, and what is owed. The standby's four numbers are lent one by one.
-use crate::refused;
-use standby::Arrival;
+use results::numbers::arrival_number;
+use results::numbers::refused;
 use standby::Numbers;
 use standby::Owed;
 use standby::arriving::take_record;
 use standby::loading::take_image;
 use standby::owing::owed;
-ghost use mathlib.Core.Path.{_≡_};
-ghost use Rattle.permissions.specs.Numbers.{arrivalNumber};
-ghost use Rattle.permissions.specs.Exports.{numbersOf, ExportedArrive, ExportedArriveImage, ExportedOwed};
-
-fn arrival_number(answer: Arrival) -> i32
-    ensures { λ r. ⌜ r ≡ arrivalNumber answer ⌝ }
-{
-    match answer {
-        Arrival::Applied => 0,
-        Arrival::Repeat => 1,
-        Arrival::Early => 2,
-        Arrival::Taken => 3,
-        Arrival::Refused(cause) => refused(cause),
-    }
-}
+ghost use Rattle.results.specs.Exports.{numbersOf, ExportedArrive, ExportedArriveImage, ExportedOwed};
 
 // Takes the record that the lent words are.
 #[no_mangle]

@@ -1,44 +1,8 @@
 // How two paths relate, for C: no table is lent.
-use crate::refused;
-use paths::Compared;
-use paths::Relation;
 use paths::giving::relate_given;
-ghost use mathlib.Core.Path.{_≡_};
-ghost use Rattle.permissions.specs.Numbers.{relationNumber, comparedNumber, comparedCommon};
-ghost use Rattle.permissions.specs.Exports.{ExportedComparison};
-
-fn relation_number(relation: Relation) -> u8
-    ensures { λ r. ⌜ r ≡ relationNumber relation ⌝ }
-{
-    match relation {
-        Relation::Equal => 0,
-        Relation::Prefix => 1,
-        Relation::Extension => 2,
-        Relation::Less => 3,
-        Relation::Greater => 4,
-    }
-}
-
-fn compared_number(compared: Compared) -> i32
-    ensures { λ r. ⌜ r ≡ comparedNumber compared ⌝ }
-{
-    match compared {
-        Compared::Comparison(found) => {
-            let relation = found.relation;
-            relation_number(relation) as i32
-        }
-        Compared::Refused(cause) => refused(cause),
-    }
-}
-
-fn compared_common(compared: Compared) -> usize
-    ensures { λ r. ⌜ r ≡ comparedCommon compared ⌝ }
-{
-    match compared {
-        Compared::Comparison(found) => found.common,
-        Compared::Refused(_) => 0,
-    }
-}
+use results::numbers::compared_common;
+use results::numbers::compared_number;
+ghost use Rattle.results.specs.Exports.{ExportedComparison};
 
 // How a path relates to another. How many leading components they share goes to `common`.
 #[no_mangle]

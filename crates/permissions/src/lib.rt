@@ -1,33 +1,37 @@
 // The calls for the controller's C program: numbers and byte slices, over a table in lent memory. permissions.h documents them for C.
 // A negative result −n is refusal n of the scope. Where a call answers more than one number, the others go to lent numbers, which are always
 // written.
-use calls::Call;
-use calls::Question;
-use calls::asking::ask;
-use calls::questioning::question;
-use calls::revoking::revoke;
-use child::creating::create_child_permissions;
+use calls::changing;
+use deciding::Call;
+use link::Link;
 use paths::Descriptor;
 use refusals::Refusal;
-use refusals::refusal_number;
+use results::calling::asked_plainly;
+use results::calling::asks;
+use results::calling::created;
+use results::calling::revoked_plainly;
+use results::numbers::answer_number;
+use results::numbers::outcome_number;
+use results::numbers::refused;
+use results::numbers::tell_listed;
 use table::Listed;
-use table::Outcome;
 use table::acting;
 use table::holding::holds_table;
 use table::listing;
 use table::reading;
-use walk::Answer;
 use walk::querying::query;
-use walk::walking::state_number;
-ghost use mathlib.Core.Path.{_≡_};
 ghost use mathlib.Core.List.{[]};
 ghost use Rattle.paths.specs.declared.Descriptor.the-variants.{NoPath, Path};
-ghost use Rattle.calls.specs.declared.Call.the-variants.{Check, Request};
-ghost use Rattle.permissions.specs.Numbers.{refusedNumber, outcomeNumber, answerNumber, askedNumber, questionNumber, questionSize};
-ghost use Rattle.permissions.specs.Exports.{
+ghost use Rattle.deciding.specs.declared.Call.the-variants.{Check, Request};
+ghost use Rattle.link.specs.declared.Link.the-variants.{Plain};
+ghost use Rattle.link.specs.Sending.{lent, alone};
+ghost use Rattle.items.specs.Items.{itemList};
+ghost use Rattle.calls.specs.Calls.{about, Asks, Revokes};
+ghost use Rattle.calls.specs.Changes.{SetsSwitches, Inserts};
+ghost use Rattle.child.specs.Calls.{CreatesChild};
+ghost use Rattle.results.specs.Exports.{
   ExportedFresh,
-  ExportedInsert,
-  ExportedSwitches,
+  ExportedSent,
   ExportedQuery,
   ExportedAsk,
   ExportedQuestion,
@@ -35,7 +39,6 @@ ghost use Rattle.permissions.specs.Exports.{
   ExportedChild,
   ExportedUsed,
   ExportedHead,
-  TellsListed,
   ExportedEntry,
 };
 
@@ -43,62 +46,6 @@ pub mod arriving;
 pub mod comparing;
 pub mod linking;
 pub mod without_path;
-
-// ---- numbers
-
-// A refusal as a result.
-pub(crate) fn refused(cause: Refusal) -> i32
-    ensures { λ r. ⌜ r ≡ refusedNumber cause ⌝ }
-{
-    -(refusal_number(cause) as i32)
-}
-
-pub(crate) fn outcome_number(outcome: Outcome) -> i32
-    ensures { λ r. ⌜ r ≡ outcomeNumber outcome ⌝ }
-{
-    match outcome {
-        Outcome::Done => 0,
-        Outcome::Refused(cause) => refused(cause),
-    }
-}
-
-pub(crate) fn answer_number(answer: Answer) -> i32
-    ensures { λ r. ⌜ r ≡ answerNumber answer ⌝ }
-{
-    match answer {
-        Answer::State(state) => state_number(state) as i32,
-        Answer::Refused(cause) => refused(cause),
-    }
-}
-
-pub(crate) fn asked_number(asked: bool) -> u32
-    ensures { λ r. ⌜ r ≡ askedNumber asked ⌝ }
-{
-    if asked {
-        return 1;
-    }
-    0
-}
-
-fn question_number(question: Question) -> i32
-    ensures { λ r. ⌜ r ≡ questionNumber question ⌝ }
-{
-    match question {
-        Question::Asks(_) => 1,
-        Question::AsksNothing => 0,
-        Question::Refused(cause) => refused(cause),
-    }
-}
-
-fn question_size(question: Question) -> usize
-    ensures { λ r. ⌜ r ≡ questionSize question ⌝ }
-{
-    match question {
-        Question::Asks(n) => n,
-        Question::AsksNothing => 0,
-        Question::Refused(_) => 0,
-    }
-}
 
 // ---- a table
 
@@ -113,17 +60,25 @@ pub extern "C" fn permissions_fresh(mem: &mut [u8]) -> i32
 // Inserts an entry of a kind.
 #[no_mangle]
 pub extern "C" fn permissions_insert(mem: &mut [u8], kind: u32, path: &[u8], cwd: &[u8]) -> i32
-    ensures { λ r. ⌜ ExportedInsert (now (mem .entry)) kind (now (path .entry)) (now (cwd .entry)) (now (mem .exit)) r ⌝ }
+    ensures { λ r. ⌜ ExportedSent (Inserts Plain (alone (now (mem .entry))) kind (now («path» .entry)) (now (cwd .entry)) (alone (now (mem .exit)))) 0 r ⌝ }
 {
-    outcome_number(acting::insert(mem, kind, path, cwd))
+    let mut number: u64 = 0;
+    let mut words = [0u32; 1];
+    let sent = changing::insert(mem, Link::Plain, &mut number, &mut words, kind, path, cwd);
+    let outcome = sent.outcome;
+    outcome_number(outcome)
 }
 
 // Sets the switches, all five together.
 #[no_mangle]
 pub extern "C" fn permissions_switches(mem: &mut [u8], switches: u32) -> i32
-    ensures { λ r. ⌜ ExportedSwitches (now (mem .entry)) switches (now (mem .exit)) r ⌝ }
+    ensures { λ r. ⌜ ExportedSent (SetsSwitches Plain (alone (now (mem .entry))) switches (alone (now (mem .exit)))) 0 r ⌝ }
 {
-    outcome_number(acting::set_switches(mem, switches))
+    let mut number: u64 = 0;
+    let mut words = [0u32; 1];
+    let sent = changing::set_switches(mem, Link::Plain, &mut number, &mut words, switches);
+    let outcome = sent.outcome;
+    outcome_number(outcome)
 }
 
 // ---- query
@@ -146,27 +101,6 @@ pub extern "C" fn permissions_query_all(mem: &[u8], mode: u32) -> i32
 
 // ---- check and request
 
-// Checks or requests. Whether the operator was asked goes to `told`, and the text's size to `size`.
-fn asked(
-    mem: &mut [u8],
-    call: Call,
-    d: Descriptor,
-    path: &[u8],
-    cwd: &[u8],
-    response: u32,
-    space: &mut [u8],
-    told: &mut u32,
-    size: &mut usize,
-) -> i32
-    ensures { λ r. ⌜ ExportedAsk call (now (mem .entry)) (now (space .entry)) d (now (path .entry)) (now (cwd .entry)) response (now (mem .exit)) (now (space .exit)) (now (told .exit)) (now (size .exit)) r ⌝ }
-{
-    let asked = ask(mem, call, d, path, cwd, response, space);
-    *told = asked_number(asked.asked);
-    *size = asked.text;
-    let answer = asked.answer;
-    answer_number(answer)
-}
-
 // Checks a path. The text space gets the text where the operator is asked and where the check fails.
 #[no_mangle]
 pub extern "C" fn permissions_check(
@@ -178,9 +112,9 @@ pub extern "C" fn permissions_check(
     told: &mut u32,
     size: &mut usize,
 ) -> i32
-    ensures { λ r. ⌜ ExportedAsk Check (now (mem .entry)) (now (space .entry)) Path (now (path .entry)) (now (cwd .entry)) response (now (mem .exit)) (now (space .exit)) (now (told .exit)) (now (size .exit)) r ⌝ }
+    ensures { λ r. ⌜ ExportedAsk (Asks Check Plain (alone (now (mem .entry))) (now (space .entry)) (about Path (now («path» .entry)) (now (cwd .entry))) response (alone (now (mem .exit))) (now (space .exit))) (now (told .exit)) (now (size .exit)) 0 r ⌝ }
 {
-    asked(
+    asked_plainly(
         mem,
         Call::Check,
         Descriptor::Path,
@@ -202,9 +136,9 @@ pub extern "C" fn permissions_check_all(
     told: &mut u32,
     size: &mut usize,
 ) -> i32
-    ensures { λ r. ⌜ ExportedAsk Check (now (mem .entry)) (now (space .entry)) NoPath [] [] response (now (mem .exit)) (now (space .exit)) (now (told .exit)) (now (size .exit)) r ⌝ }
+    ensures { λ r. ⌜ ExportedAsk (Asks Check Plain (alone (now (mem .entry))) (now (space .entry)) (about NoPath [] []) response (alone (now (mem .exit))) (now (space .exit))) (now (told .exit)) (now (size .exit)) 0 r ⌝ }
 {
-    asked(
+    asked_plainly(
         mem,
         Call::Check,
         Descriptor::NoPath,
@@ -228,9 +162,9 @@ pub extern "C" fn permissions_request(
     told: &mut u32,
     size: &mut usize,
 ) -> i32
-    ensures { λ r. ⌜ ExportedAsk Request (now (mem .entry)) (now (space .entry)) Path (now (path .entry)) (now (cwd .entry)) response (now (mem .exit)) (now (space .exit)) (now (told .exit)) (now (size .exit)) r ⌝ }
+    ensures { λ r. ⌜ ExportedAsk (Asks Request Plain (alone (now (mem .entry))) (now (space .entry)) (about Path (now («path» .entry)) (now (cwd .entry))) response (alone (now (mem .exit))) (now (space .exit))) (now (told .exit)) (now (size .exit)) 0 r ⌝ }
 {
-    asked(
+    asked_plainly(
         mem,
         Call::Request,
         Descriptor::Path,
@@ -252,9 +186,9 @@ pub extern "C" fn permissions_request_all(
     told: &mut u32,
     size: &mut usize,
 ) -> i32
-    ensures { λ r. ⌜ ExportedAsk Request (now (mem .entry)) (now (space .entry)) NoPath [] [] response (now (mem .exit)) (now (space .exit)) (now (told .exit)) (now (size .exit)) r ⌝ }
+    ensures { λ r. ⌜ ExportedAsk (Asks Request Plain (alone (now (mem .entry))) (now (space .entry)) (about NoPath [] []) response (alone (now (mem .exit))) (now (space .exit))) (now (told .exit)) (now (size .exit)) 0 r ⌝ }
 {
-    asked(
+    asked_plainly(
         mem,
         Call::Request,
         Descriptor::NoPath,
@@ -268,23 +202,6 @@ pub extern "C" fn permissions_request_all(
 }
 
 // ---- what a check or request would ask
-
-// Whether a call would ask. The question's size goes to `size`.
-fn asks(
-    mem: &[u8],
-    call: Call,
-    d: Descriptor,
-    path: &[u8],
-    cwd: &[u8],
-    space: &mut [u8],
-    size: &mut usize,
-) -> i32
-    ensures { λ r. ⌜ ExportedQuestion call (now (mem .entry)) (now (space .entry)) d (now (path .entry)) (now (cwd .entry)) (now (space .exit)) (now (size .exit)) r ⌝ }
-{
-    let question = question(mem, call, d, path, cwd, space);
-    *size = question_size(question);
-    question_number(question)
-}
 
 // Whether a check of a path would ask, and with which text.
 #[no_mangle]
@@ -347,17 +264,17 @@ pub extern "C" fn permissions_request_all_asks(
 // Revokes a path, and says what a query in mode partial then answers.
 #[no_mangle]
 pub extern "C" fn permissions_revoke(mem: &mut [u8], path: &[u8], cwd: &[u8]) -> i32
-    ensures { λ r. ⌜ ExportedRevoke (now (mem .entry)) Path (now (path .entry)) (now (cwd .entry)) (now (mem .exit)) r ⌝ }
+    ensures { λ r. ⌜ ExportedRevoke (Revokes Plain (alone (now (mem .entry))) (about Path (now («path» .entry)) (now (cwd .entry))) (alone (now (mem .exit)))) 0 r ⌝ }
 {
-    answer_number(revoke(mem, Descriptor::Path, path, cwd))
+    revoked_plainly(mem, Descriptor::Path, path, cwd)
 }
 
 // Revokes all.
 #[no_mangle]
 pub extern "C" fn permissions_revoke_all(mem: &mut [u8]) -> i32
-    ensures { λ r. ⌜ ExportedRevoke (now (mem .entry)) NoPath [] [] (now (mem .exit)) r ⌝ }
+    ensures { λ r. ⌜ ExportedRevoke (Revokes Plain (alone (now (mem .entry))) (about NoPath [] []) (alone (now (mem .exit)))) 0 r ⌝ }
 {
-    answer_number(revoke(mem, Descriptor::NoPath, b"", b""))
+    revoked_plainly(mem, Descriptor::NoPath, b"", b"")
 }
 
 // Makes a child's table. How often the operator was asked goes to `told`.
@@ -372,12 +289,25 @@ pub extern "C" fn permissions_child(
     cwd: &[u8],
     told: &mut u32,
 ) -> i32
-    ensures { λ r. ⌜ ExportedChild (now (parent .entry)) (now (child .entry)) code (now (bytes .entry)) (now (ends .entry)) (now (responses .entry)) (now (cwd .entry)) (now (parent .exit)) (now (child .exit)) (now (told .exit)) r ⌝ }
+    ensures { λ r. ⌜ ExportedChild (CreatesChild Plain (alone (now (parent .entry))) (now (child .entry)) code (itemList (now (bytes .entry)) (now (ends .entry)) (now (responses .entry))) (now (cwd .entry)) (alone (now (parent .exit))) (now (child .exit))) (now (told .exit)) 0 r ⌝ }
 {
-    let made = create_child_permissions(parent, child, code, bytes, ends, responses, cwd);
-    *told = made.asked as u32;
-    let outcome = made.outcome;
-    outcome_number(outcome)
+    let mut number: u64 = 0;
+    let mut words = [0u32; 1];
+    let mut count: usize = 0;
+    created(
+        parent,
+        Link::Plain,
+        &mut number,
+        child,
+        &mut words,
+        code,
+        bytes,
+        ends,
+        responses,
+        cwd,
+        told,
+        &mut count,
+    )
 }
 
 // ---- reading a table
@@ -413,26 +343,6 @@ pub extern "C" fn permissions_head(
     *switches = reading::switches(mem) as u32;
     *marks = reading::marks(mem) as u32;
     0
-}
-
-// Writes what stands at a place of a list, and says whether an entry is there.
-fn tell_listed(listed: Listed, kind: &mut u32, at: &mut usize, size: &mut usize) -> i32
-    ensures { λ r. ⌜ TellsListed listed (now (kind .exit)) (now (at .exit)) (now (size .exit)) r ⌝ }
-{
-    match listed {
-        Listed::Entry(of, start, len) => {
-            *kind = listing::kind_number(of) as u32;
-            *at = start;
-            *size = len;
-            1
-        }
-        Listed::Nothing => {
-            *kind = 0;
-            *at = 0;
-            *size = 0;
-            0
-        }
-    }
 }
 
 // The entry at a place of the list: its kind, where its path stands in the memory, and how many bytes the path has.

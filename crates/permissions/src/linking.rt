@@ -1,29 +1,25 @@
 // The main's half of the link, for C: the beginning of a run; each call that changes a table, handed the run number, with the main's number and the record
 // space lent beside it, where how many words hold records goes to `count`, which every call writes; and the main's whole table as one image.
-use crate::answer_number;
-use crate::asked_number;
-use crate::outcome_number;
-use calls::Call;
-use link::asking;
+use calls::changing;
+use deciding::Call;
+use link::Link;
 use link::beginning::begin_run;
-use link::creating;
 use link::imaging;
-use link::inserting;
-use link::revoking;
-use link::switching;
 use paths::Descriptor;
+use results::calling::asked;
+use results::calling::created;
+use results::calling::revoked;
+use results::numbers::outcome_number;
 ghost use mathlib.Core.List.{[]};
 ghost use Rattle.paths.specs.declared.Descriptor.the-variants.{NoPath, Path};
-ghost use Rattle.calls.specs.declared.Call.the-variants.{Check, Request};
-ghost use Rattle.permissions.specs.Exports.{
-  ExportedBegin,
-  ExportedLinkedInsert,
-  ExportedLinkedSwitches,
-  ExportedLinkedAsk,
-  ExportedLinkedRevoke,
-  ExportedLinkedChild,
-  ExportedImage,
-};
+ghost use Rattle.deciding.specs.declared.Call.the-variants.{Check, Request};
+ghost use Rattle.link.specs.declared.Link.the-variants.{Linked};
+ghost use Rattle.link.specs.Sending.{lent};
+ghost use Rattle.items.specs.Items.{itemList};
+ghost use Rattle.calls.specs.Calls.{about, Asks, Revokes};
+ghost use Rattle.calls.specs.Changes.{SetsSwitches, Inserts};
+ghost use Rattle.child.specs.Calls.{CreatesChild};
+ghost use Rattle.results.specs.Exports.{ExportedBegin, ExportedSent, ExportedAsk, ExportedRevoke, ExportedChild, ExportedImage};
 
 // ---- a run
 
@@ -49,9 +45,9 @@ pub extern "C" fn permissions_linked_insert(
     words: &mut [u32],
     count: &mut usize,
 ) -> i32
-    ensures { λ r. ⌜ ExportedLinkedInsert (now (mem .entry)) run (now (number .entry)) (now (words .entry)) kind (now (path .entry)) (now (cwd .entry)) (now (mem .exit)) (now (number .exit)) (now (words .exit)) (now (count .exit)) r ⌝ }
+    ensures { λ r. ⌜ ExportedSent (Inserts (Linked run) (lent (now (mem .entry)) (now (number .entry)) (now (words .entry))) kind (now («path» .entry)) (now (cwd .entry)) (lent (now (mem .exit)) (now (number .exit)) (now (words .exit)))) (now (count .exit)) r ⌝ }
 {
-    let sent = inserting::insert(mem, run, number, words, kind, path, cwd);
+    let sent = changing::insert(mem, Link::Linked(run), number, words, kind, path, cwd);
     *count = sent.words;
     let outcome = sent.outcome;
     outcome_number(outcome)
@@ -67,42 +63,15 @@ pub extern "C" fn permissions_linked_switches(
     words: &mut [u32],
     count: &mut usize,
 ) -> i32
-    ensures { λ r. ⌜ ExportedLinkedSwitches (now (mem .entry)) run (now (number .entry)) (now (words .entry)) switches (now (mem .exit)) (now (number .exit)) (now (words .exit)) (now (count .exit)) r ⌝ }
+    ensures { λ r. ⌜ ExportedSent (SetsSwitches (Linked run) (lent (now (mem .entry)) (now (number .entry)) (now (words .entry))) switches (lent (now (mem .exit)) (now (number .exit)) (now (words .exit)))) (now (count .exit)) r ⌝ }
 {
-    let sent = switching::set_switches(mem, run, number, words, switches);
+    let sent = changing::set_switches(mem, Link::Linked(run), number, words, switches);
     *count = sent.words;
     let outcome = sent.outcome;
     outcome_number(outcome)
 }
 
 // ---- check and request
-
-// Checks or requests, and records the act, if there is one. Whether the operator was asked goes to `told`, and the text's size to `size`.
-fn linked_asked(
-    mem: &mut [u8],
-    run: u32,
-    number: &mut u64,
-    call: Call,
-    d: Descriptor,
-    path: &[u8],
-    cwd: &[u8],
-    response: u32,
-    space: &mut [u8],
-    words: &mut [u32],
-    told: &mut u32,
-    size: &mut usize,
-    count: &mut usize,
-) -> i32
-    ensures { λ r. ⌜ ExportedLinkedAsk call (now (mem .entry)) run (now (number .entry)) (now (space .entry)) (now (words .entry)) d (now (path .entry)) (now (cwd .entry)) response (now (mem .exit)) (now (number .exit)) (now (space .exit)) (now (words .exit)) (now (told .exit)) (now (size .exit)) (now (count .exit)) r ⌝ }
-{
-    let sent = asking::ask(mem, run, number, words, call, d, path, cwd, response, space);
-    let asked = sent.answered;
-    *told = asked_number(asked.asked);
-    *size = asked.text;
-    *count = sent.words;
-    let answer = asked.answer;
-    answer_number(answer)
-}
 
 // Checks a path, and records what the operator's answer inserts or sets.
 #[no_mangle]
@@ -119,19 +88,19 @@ pub extern "C" fn permissions_linked_check(
     size: &mut usize,
     count: &mut usize,
 ) -> i32
-    ensures { λ r. ⌜ ExportedLinkedAsk Check (now (mem .entry)) run (now (number .entry)) (now (space .entry)) (now (words .entry)) Path (now (path .entry)) (now (cwd .entry)) response (now (mem .exit)) (now (number .exit)) (now (space .exit)) (now (words .exit)) (now (told .exit)) (now (size .exit)) (now (count .exit)) r ⌝ }
+    ensures { λ r. ⌜ ExportedAsk (Asks Check (Linked run) (lent (now (mem .entry)) (now (number .entry)) (now (words .entry))) (now (space .entry)) (about Path (now («path» .entry)) (now (cwd .entry))) response (lent (now (mem .exit)) (now (number .exit)) (now (words .exit))) (now (space .exit))) (now (told .exit)) (now (size .exit)) (now (count .exit)) r ⌝ }
 {
-    linked_asked(
+    asked(
         mem,
-        run,
+        Link::Linked(run),
         number,
+        words,
         Call::Check,
         Descriptor::Path,
         path,
         cwd,
         response,
         space,
-        words,
         told,
         size,
         count,
@@ -151,19 +120,19 @@ pub extern "C" fn permissions_linked_check_all(
     size: &mut usize,
     count: &mut usize,
 ) -> i32
-    ensures { λ r. ⌜ ExportedLinkedAsk Check (now (mem .entry)) run (now (number .entry)) (now (space .entry)) (now (words .entry)) NoPath [] [] response (now (mem .exit)) (now (number .exit)) (now (space .exit)) (now (words .exit)) (now (told .exit)) (now (size .exit)) (now (count .exit)) r ⌝ }
+    ensures { λ r. ⌜ ExportedAsk (Asks Check (Linked run) (lent (now (mem .entry)) (now (number .entry)) (now (words .entry))) (now (space .entry)) (about NoPath [] []) response (lent (now (mem .exit)) (now (number .exit)) (now (words .exit))) (now (space .exit))) (now (told .exit)) (now (size .exit)) (now (count .exit)) r ⌝ }
 {
-    linked_asked(
+    asked(
         mem,
-        run,
+        Link::Linked(run),
         number,
+        words,
         Call::Check,
         Descriptor::NoPath,
         b"",
         b"",
         response,
         space,
-        words,
         told,
         size,
         count,
@@ -185,19 +154,19 @@ pub extern "C" fn permissions_linked_request(
     size: &mut usize,
     count: &mut usize,
 ) -> i32
-    ensures { λ r. ⌜ ExportedLinkedAsk Request (now (mem .entry)) run (now (number .entry)) (now (space .entry)) (now (words .entry)) Path (now (path .entry)) (now (cwd .entry)) response (now (mem .exit)) (now (number .exit)) (now (space .exit)) (now (words .exit)) (now (told .exit)) (now (size .exit)) (now (count .exit)) r ⌝ }
+    ensures { λ r. ⌜ ExportedAsk (Asks Request (Linked run) (lent (now (mem .entry)) (now (number .entry)) (now (words .entry))) (now (space .entry)) (about Path (now («path» .entry)) (now (cwd .entry))) response (lent (now (mem .exit)) (now (number .exit)) (now (words .exit))) (now (space .exit))) (now (told .exit)) (now (size .exit)) (now (count .exit)) r ⌝ }
 {
-    linked_asked(
+    asked(
         mem,
-        run,
+        Link::Linked(run),
         number,
+        words,
         Call::Request,
         Descriptor::Path,
         path,
         cwd,
         response,
         space,
-        words,
         told,
         size,
         count,
@@ -217,19 +186,19 @@ pub extern "C" fn permissions_linked_request_all(
     size: &mut usize,
     count: &mut usize,
 ) -> i32
-    ensures { λ r. ⌜ ExportedLinkedAsk Request (now (mem .entry)) run (now (number .entry)) (now (space .entry)) (now (words .entry)) NoPath [] [] response (now (mem .exit)) (now (number .exit)) (now (space .exit)) (now (words .exit)) (now (told .exit)) (now (size .exit)) (now (count .exit)) r ⌝ }
+    ensures { λ r. ⌜ ExportedAsk (Asks Request (Linked run) (lent (now (mem .entry)) (now (number .entry)) (now (words .entry))) (now (space .entry)) (about NoPath [] []) response (lent (now (mem .exit)) (now (number .exit)) (now (words .exit))) (now (space .exit))) (now (told .exit)) (now (size .exit)) (now (count .exit)) r ⌝ }
 {
-    linked_asked(
+    asked(
         mem,
-        run,
+        Link::Linked(run),
         number,
+        words,
         Call::Request,
         Descriptor::NoPath,
         b"",
         b"",
         response,
         space,
-        words,
         told,
         size,
         count,
@@ -249,12 +218,18 @@ pub extern "C" fn permissions_linked_revoke(
     words: &mut [u32],
     count: &mut usize,
 ) -> i32
-    ensures { λ r. ⌜ ExportedLinkedRevoke (now (mem .entry)) run (now (number .entry)) (now (words .entry)) Path (now (path .entry)) (now (cwd .entry)) (now (mem .exit)) (now (number .exit)) (now (words .exit)) (now (count .exit)) r ⌝ }
+    ensures { λ r. ⌜ ExportedRevoke (Revokes (Linked run) (lent (now (mem .entry)) (now (number .entry)) (now (words .entry))) (about Path (now («path» .entry)) (now (cwd .entry))) (lent (now (mem .exit)) (now (number .exit)) (now (words .exit)))) (now (count .exit)) r ⌝ }
 {
-    let sent = revoking::revoke(mem, run, number, words, Descriptor::Path, path, cwd);
-    *count = sent.words;
-    let answer = sent.answer;
-    answer_number(answer)
+    revoked(
+        mem,
+        Link::Linked(run),
+        number,
+        words,
+        Descriptor::Path,
+        path,
+        cwd,
+        count,
+    )
 }
 
 // Revokes all, and records it.
@@ -266,12 +241,18 @@ pub extern "C" fn permissions_linked_revoke_all(
     words: &mut [u32],
     count: &mut usize,
 ) -> i32
-    ensures { λ r. ⌜ ExportedLinkedRevoke (now (mem .entry)) run (now (number .entry)) (now (words .entry)) NoPath [] [] (now (mem .exit)) (now (number .exit)) (now (words .exit)) (now (count .exit)) r ⌝ }
+    ensures { λ r. ⌜ ExportedRevoke (Revokes (Linked run) (lent (now (mem .entry)) (now (number .entry)) (now (words .entry))) (about NoPath [] []) (lent (now (mem .exit)) (now (number .exit)) (now (words .exit)))) (now (count .exit)) r ⌝ }
 {
-    let sent = revoking::revoke(mem, run, number, words, Descriptor::NoPath, b"", b"");
-    *count = sent.words;
-    let answer = sent.answer;
-    answer_number(answer)
+    revoked(
+        mem,
+        Link::Linked(run),
+        number,
+        words,
+        Descriptor::NoPath,
+        b"",
+        b"",
+        count,
+    )
 }
 
 // Makes a child's table, and records what the parent's checks of the items insert or set, also where the call is refused on the way. How often the
@@ -291,11 +272,11 @@ pub extern "C" fn permissions_linked_child(
     told: &mut u32,
     count: &mut usize,
 ) -> i32
-    ensures { λ r. ⌜ ExportedLinkedChild (now (parent .entry)) run (now (number .entry)) (now (child .entry)) (now (words .entry)) code (now (bytes .entry)) (now (ends .entry)) (now (responses .entry)) (now (cwd .entry)) (now (parent .exit)) (now (number .exit)) (now (child .exit)) (now (words .exit)) (now (told .exit)) (now (count .exit)) r ⌝ }
+    ensures { λ r. ⌜ ExportedChild (CreatesChild (Linked run) (lent (now (parent .entry)) (now (number .entry)) (now (words .entry))) (now (child .entry)) code (itemList (now (bytes .entry)) (now (ends .entry)) (now (responses .entry))) (now (cwd .entry)) (lent (now (parent .exit)) (now (number .exit)) (now (words .exit))) (now (child .exit))) (now (told .exit)) (now (count .exit)) r ⌝ }
 {
-    let sent = creating::create_child_permissions(
+    created(
         parent,
-        run,
+        Link::Linked(run),
         number,
         child,
         words,
@@ -304,12 +285,9 @@ pub extern "C" fn permissions_linked_child(
         ends,
         responses,
         cwd,
-    );
-    let made = sent.made;
-    *told = made.asked as u32;
-    *count = sent.words;
-    let outcome = made.outcome;
-    outcome_number(outcome)
+        told,
+        count,
+    )
 }
 
 // ---- an image

@@ -1,8 +1,8 @@
 // Permissions without a path, for C: the state is lent as its number, and a setting is on unless it is 0.
-use crate::answer_number;
-use crate::asked_number;
-ghost use Rattle.calls.specs.declared.Call.the-variants.{Check, Request};
-ghost use Rattle.permissions.specs.Exports.{ExportedUnit, ExportedUnitRevoke};
+use results::numbers::answer_number;
+use results::numbers::asked_number;
+ghost use Rattle.deciding.specs.declared.Call.the-variants.{Check, Request};
+ghost use Rattle.results.specs.Exports.{ExportedUnit, ExportedUnitRevoke};
 
 // Checks. Whether the operator was asked goes to `told`.
 #[no_mangle]

@@ -5,7 +5,7 @@ use mathlib.Core.List.{List, _++_}
 use mathlib.Core.Option.{some}
 use lib.ListN.{length, take, drop, take-append-drop}
 use lib.Seq.{take-append-seam, take-take}
-use Rattle.table.specs.Calls.{recordSpace}
+use Rattle.records.specs.Numbers.{recordSpace}
 use Rattle.records.specs.Records.{Change, Read, changeWords, readFirst}
 use Rattle.records.proofs.RecordLaws.{read-first, few-words}
 use Rattle.records.proofs.WrittenLaws.{written-first}

@@ -8,3 +8,4 @@ pub mod ReadingLaws
 pub mod Walk
 pub mod Lent
 pub mod Nexts
+pub mod NumberedLaws

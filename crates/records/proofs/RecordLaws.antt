@@ -1,4 +1,4 @@
--- What is written reads back as itself, whatever words follow, and a record has at most 345 words.
+-- What is written reads back as itself, whatever words follow, and a record has at most as many words as its space.
 use Prim.Native.Nat.{ℕ, zero, suc, _+_, _/_, _≤_, _<_}
 use mathlib.Core.Path.{_≡_, refl, sym, ap, _∙_}
 use mathlib.Core.List.{List, [], _∷_, _++_, append-nil}
@@ -17,8 +17,7 @@ use Rattle.table.specs.declared.Kind.{Kind}
 use Rattle.table.specs.declared.Kind.the-variants.{G, D, P, I}
 use Rattle.table.specs.Tables.{maxSwitches, isEntry}
 use Rattle.table.specs.Acts.{Act, insert, setSwitches, revoke, revokeAll, isAct}
-use Rattle.table.specs.Carrying.{maxRun, isRun}
-use Rattle.table.specs.Calls.{recordSpace}
+use Rattle.records.specs.Numbers.{maxRun, isRun, recordSpace}
 use Rattle.records.specs.Records.{
   Change,
   headKind,

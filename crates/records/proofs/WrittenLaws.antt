@@ -18,7 +18,7 @@ use Rattle.table.specs.declared.Kind.{Kind}
 use Rattle.table.specs.declared.Kind.the-variants.{G, D, P, I}
 use Rattle.table.specs.Tables.{isEntry}
 use Rattle.table.specs.Acts.{Act, setSwitches, revoke, revokeAll, isAct}
-use Rattle.table.specs.Carrying.{maxRun, isRun}
+use Rattle.records.specs.Numbers.{maxRun, isRun}
 use Rattle.records.specs.Records.{
   Change,
   headKind,

@@ -12,7 +12,7 @@ use Rattle.table.specs.declared.Kind.{Kind}
 use Rattle.table.specs.declared.Kind.the-variants.{G, D, P, I}
 use Rattle.table.specs.Tables.{maxSwitches}
 use Rattle.table.specs.Acts.{Act, insert, setSwitches, revoke, revokeAll, isAct}
-use Rattle.table.specs.Carrying.{isRun, maxNumber}
+use Rattle.records.specs.Numbers.{isRun, maxNumber}
 
 -- a change: an act of the main with its run, and its number in that run
 pub record Change : Type 0 where

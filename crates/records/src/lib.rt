@@ -1,6 +1,7 @@
 // Records: a change of the main's table as 32-bit words, written and read back. The definitions are in specs/.
 use table::Action;
 
+pub mod numbers;
 pub mod reading;
 pub mod words;
 pub mod writing;
@@ -20,6 +21,11 @@ pub const KIND_UNIT: u32 = 0x1000_0000;
 
 // In a head four act bits stand next, and the change number below them.
 pub const ACT_UNIT: u32 = 0x100_0000;
+
+// The greatest change number, and the greatest run number.
+pub const MAX_NUMBER: u64 = 16777215;
+
+pub const MAX_RUN: u32 = 268435455;
 
 // The words that the longest record takes: a path of 1,024 bytes, its length, the head and the run word.
 pub const RECORD_WORDS: usize = 345;

@@ -18,14 +18,13 @@ use Rattle.paths.specs.Copying.{begun}
 use Rattle.paths.specs.Giving.{isPath}
 use Rattle.paths.proofs.ComponentLaws.{and-left}
 use Rattle.table.specs.declared.Action.{Action}
-use Rattle.table.specs.declared.Numbering.the-variants.{Plain}
 use Rattle.table.specs.declared.Outcome.{Outcome}
 use Rattle.table.specs.declared.Outcome.the-variants as outcome
 use Rattle.table.specs.Tables.{Table, maxPathBytes, fresh, pathBytes, isEntry}
 use Rattle.table.specs.Acts.{Act, insert, setSwitches, revoke, revokeAll, isAct, wouldAdd, hasRoom, overflows, actOverflows}
 use Rattle.table.specs.Memory.{tableOf, holds, put, doAct, doActs}
-use Rattle.table.specs.Carrying.{usedUp, carryCause, actsOf, actOf, actionOf, fits, CarriesOut}
-use Rattle.table.specs.Calls.{carried, MakesFresh}
+use Rattle.table.specs.Carrying.{roomCause, actsOf, actOf, actionOf, fits, CarriesOut}
+use Rattle.table.specs.Calls.{withRoom, MakesFresh}
 use Rattle.table.proofs.ActLaws.{carried-done, carried-refused}
 use Rattle.table.proofs.CallLaws.{made-fresh}
 use Rattle.table.proofs.Puts.{long-of, tableOf-put, holds-put}
@@ -326,12 +325,12 @@ module _ (t : Table) (m : List ℕ) (s : Numbers) (c : Change) where
     unfolding inRun
     taken-next e = taken-run ∙ rw (lt-leb (c .number) (s .n) (omega arith), eq-eqb (c .number) (s .n + 1) e)
 
-  pub applied-room : carryCause Plain t (some (c .act)) ≡ none → applied t m s c ≡ ok (applies m s (c .act))
-  unfolding applied carried unless andThen
+  pub applied-room : roomCause t (some (c .act)) ≡ none → applied t m s c ≡ ok (applies m s (c .act))
+  unfolding applied withRoom unless andThen
   applied-room e = rw e
 
-  pub applied-full : {cause : Refusal} → carryCause Plain t (some (c .act)) ≡ some cause → applied t m s c ≡ refused cause
-  unfolding applied carried unless andThen
+  pub applied-full : {cause : Refusal} → roomCause t (some (c .act)) ≡ some cause → applied t m s c ≡ refused cause
+  unfolding applied withRoom unless andThen
   applied-full e = rw e
 
 -- the ways that there are
@@ -397,9 +396,9 @@ module _ (m : List ℕ) (s : Numbers) (run number : ℕ) (act : Option Act) wher
   moves-early ne a e = comes-left (ap ok (moved-early m s (changeOf run number a) ne)) refl refl refl
 
   pub moves-first : {clear m′ : List ℕ} {o r : Outcome} {n : ℕ} → number ≡ 1 → n ≡ 1 → holds m ≡ true → fits act ≡ true → MakesFresh m clear o
-      → CarriesOut Plain act clear m′ r
+      → CarriesOut act clear m′ r
       → Moves run number act m s m′ (record { answer = Applied; numbers = record { n = n; h = s .h; run = run; highest = s .highest } })
-  unfolding fits carryCause usedUp firstCause actsOf doActs
+  unfolding fits roomCause firstCause actsOf doActs
   moves-first {clear} {m′} first one h fit F C a e =
       let room = fresh-room a (rw e at fit) in
       let done : m′ ≡ doAct (put fresh m) a = C .memory ∙ rw (e, cleared-table h F, room, cleared h F) in
@@ -424,7 +423,7 @@ module _ (m : List ℕ) (s : Numbers) (run number : ℕ) (act : Option Act) {aft
     pub takes-early : after .n + 1 < number → Takes run number act m s m (record { answer = Early; numbers = after })
     takes-early l a e = comes-left (taken-early _ m _ (changeOf run number a) (rw M at same) (rw M at l)) refl refl M
 
-    module _ {m′ : List ℕ} {r : Outcome} (next : number ≡ after .n + 1) (C : CarriesOut Plain act m m′ r) where
+    module _ {m′ : List ℕ} {r : Outcome} (next : number ≡ after .n + 1) (C : CarriesOut act m m′ r) where
       next-taken : (a : Act) → taken (tableOf m) m (met s run number) (changeOf run number a) ≡ applied (tableOf m) m (met s run number) (changeOf run number a)
       next-taken a = taken-next _ m _ (changeOf run number a) (rw M at same) (rw M at next)
 

@@ -9,11 +9,10 @@ use lib.Dec.{leb, ltb, eqb}
 use Rattle.refusals.specs.declared.Refusal.{Refusal}
 use Rattle.refusals.specs.Refusals.{Result, refused, ok, andThen}
 use Rattle.refusals.proofs.CauseLaws.{unless-ok}
-use Rattle.table.specs.declared.Numbering.the-variants.{Plain}
 use Rattle.table.specs.Tables.{Table, fresh, isTable}
 use Rattle.table.specs.Acts.{Act, isAct, applyAct, actOverflows}
 use Rattle.table.specs.Memory.{tableOf, holds, put, doAct, doActs}
-use Rattle.table.specs.Calls.{carried}
+use Rattle.table.specs.Calls.{withRoom}
 use Rattle.table.proofs.TableLaws.{fresh-table}
 use Rattle.table.proofs.Puts.{long-of, tableOf-put, holds-put}
 use Rattle.table.proofs.ActLaws.{acted-one, no-cause-room}
@@ -74,15 +73,15 @@ module _ (m : List ℕ) (s : Numbers) (h : holds m ≡ true) where
     unfolding KeptBy leftBy
     kept-stays a = record { holding = h; agreeing = stays-agrees M }
 
-    kept-applied : c .run ≡ after .run → c .number ≡ after .n + 1 → (r : Result Act) → carried Plain (tableOf m) (c .act) ≡ r
+    kept-applied : c .run ≡ after .run → c .number ≡ after .n + 1 → (r : Result Act) → withRoom (tableOf m) (c .act) ≡ r
         → KeptBy m s (andThen r (λ act. ok (applies m after act)))
-    unfolding KeptBy leftBy andThen carried
+    unfolding KeptBy leftBy andThen withRoom
     kept-applied q k (refused cause) e = record { holding = h; agreeing = λ A. A }
     kept-applied q k (ok act) e =
         let u = unless-ok _ (c .act) e in
         let is : c .act ≡ act = u .1 in
         record {
-          holding = rw is at (act-holds m h (c .act) fit (no-cause-room Plain (tableOf m) (c .act) (u .0)));
+          holding = rw is at (act-holds m h (c .act) fit (no-cause-room (tableOf m) (c .act) (u .0)));
           agreeing = λ A. comes-agrees M (sym q) (sym k);
         }
 
@@ -95,7 +94,7 @@ module _ (m : List ℕ) (s : Numbers) (h : holds m ≡ true) where
     }
     taken-kept (repeats q l) = kept-stays Repeat
     taken-kept (early q l) = kept-stays Early
-    taken-kept (next q k) = unfold applied in kept-applied q k (carried Plain (tableOf m) (c .act)) refl
+    taken-kept (next q k) = unfold applied in kept-applied q k (withRoom (tableOf m) (c .act)) refl
 
   -- an image
   module _ (i : Image) (v : isTable (i .table) ≡ true) where
@@ -183,7 +182,7 @@ module _ (m n : List ℕ) (h : holds m ≡ true) (k : holds n ≡ true) (e : tab
       alike-if (ltb (c .run) (x .run)) (leave (same-stays Repeat x))
       (alike-if (ltb (x .run) (c .run)) (leave (same-if (eqb (c .number) 1) (same-moves x c) (same-stays Early x)))
       (alike-if (leb (c .number) (x .n)) (leave (same-stays Repeat x))
-      (alike-if (eqb (c .number) (x .n + 1)) (alike-step (carried Plain t (c .act)) (λ act. leave (same-applies x act))) (leave (same-stays Early x)))))
+      (alike-if (eqb (c .number) (x .n + 1)) (alike-step (withRoom t (c .act)) (λ act. leave (same-applies x act))) (leave (same-stays Early x)))))
 
   same-loaded : (x : Numbers) (i : Image) → Same (loaded m x i) (loaded n x i)
   unfolding loaded takes

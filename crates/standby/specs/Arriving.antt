@@ -8,11 +8,10 @@ use mathlib.Core.Bool.{Bool, _&&_, _||_, not, cond}
 use lib.Dec.{leb, ltb, eqb}
 use Rattle.refusals.specs.declared.Refusal.the-variants.{NoTable, MalformedRecord}
 use Rattle.refusals.specs.Refusals.{when, firstCause, Result, refused, ok, andThen, unless}
-use Rattle.table.specs.declared.Numbering.the-variants.{Plain}
 use Rattle.table.specs.Tables.{Table, fresh}
 use Rattle.table.specs.Acts.{Act}
 use Rattle.table.specs.Memory.{tableOf, holds, put, doAct}
-use Rattle.table.specs.Calls.{carried}
+use Rattle.table.specs.Calls.{withRoom}
 use Rattle.records.specs.Records.{Change, readChange}
 use Rattle.standby.specs.declared.Numbers.{Numbers}
 use Rattle.standby.specs.declared.Arrival.{Arrival}
@@ -62,7 +61,7 @@ applies m s act = record { answer = Applied; memory = doAct m act; numbers = rec
 
 -- number n + 1 of the standby's run is applied, unless its act has no room (8)
 unfoldable pub applied : Table → List ℕ → Numbers → Change → Result Left
-applied t m s c = andThen (carried Plain t (c .act)) (λ act. ok (applies m s act))
+applied t m s c = andThen (withRoom t (c .act)) (λ act. ok (applies m s act))
 
 -- a change of the standby's run: n or below answers Repeat, above n + 1 Early
 unfoldable pub inRun : Table → List ℕ → Numbers → Change → Result Left

@@ -7,7 +7,6 @@ use records::Record;
 use records::reading::read_record;
 use refusals::Refusal;
 use table::Action;
-use table::Numbering;
 use table::Outcome;
 use table::acting::make_fresh;
 use table::carrying::carry_out;
@@ -94,7 +93,7 @@ fn take_higher(
         };
     }
     make_fresh(mem);
-    carry_out(mem, Numbering::Plain, action, q);
+    carry_out(mem, action, q);
     Arrived {
         answer: Arrival::Applied,
         numbers: Numbers {
@@ -142,7 +141,7 @@ fn take_change(
             numbers: after,
         };
     }
-    match carry_out(mem, Numbering::Plain, action, q) {
+    match carry_out(mem, action, q) {
         Outcome::Refused(cause) => refused(cause, numbers),
         Outcome::Done => Arrived {
             answer: Arrival::Applied,

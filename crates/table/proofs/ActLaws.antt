@@ -16,7 +16,6 @@ use Rattle.table.specs.declared.Dropped.{Dropped}
 use Rattle.table.specs.declared.Dropped.the-variants.{Prefixes, All}
 use Rattle.table.specs.declared.Kind.{Kind}
 use Rattle.table.specs.declared.Kind.the-variants.{G, D, P, I}
-use Rattle.table.specs.declared.Numbering.{Numbering}
 use Rattle.table.specs.declared.Outcome.{Outcome}
 use Rattle.table.specs.declared.Outcome.the-variants.{Done, Refused}
 use Rattle.table.specs.Entries.{Entry, kindNumber, isGranted}
@@ -37,7 +36,7 @@ use Rattle.table.specs.Acts.{
   applyActs,
 }
 use Rattle.table.specs.Memory.{tableOf, holds, doAct, doActs}
-use Rattle.table.specs.Carrying.{carryCause, actsOf, outcomeOf, fits, CarriesOut}
+use Rattle.table.specs.Carrying.{roomCause, outcomeOf, CarriesOut}
 use Rattle.table.proofs.BitLaws.{clear-less}
 use Rattle.table.proofs.TableLaws.{valid-parts, parts-valid}
 use Rattle.table.proofs.FoundLaws.{table-placed}
@@ -195,22 +194,12 @@ acted-append {m} a b A B = record {
   same = rw (acts-append m a b) (B .same ∙ A .same);
 }
 
--- ---- what carrying an act out leaves, and what its answer tells
+-- ---- what the answer of carrying an act out tells
 
 -- where there is no cause, the act has room
-pub no-cause-room : (numbers : Numbering) (t : Table) (a : Act) → carryCause numbers t (some a) ≡ none → actOverflows t a ≡ false
-unfolding carryCause
-no-cause-room numbers t a e = no-cause-head (actOverflows t a) TableFull _ e
-
-pub acted-carried : (numbers : Numbering) (m : List ℕ) (act : Option Act) → holds m ≡ true → fits act ≡ true
-    → Acted m (actsOf (carryCause numbers (tableOf m) act) act)
-unfolding actsOf fits
-acted-carried numbers m act h f = go (carryCause numbers (tableOf m) act) act refl f
-  where
-    go : (cause : Option Refusal) (act : Option Act) → carryCause numbers (tableOf m) act ≡ cause → fits act ≡ true → Acted m (actsOf cause act)
-    go (some cause) act e f = acted-none m h
-    go none none e f = acted-none m h
-    go none (some a) e f = acted-one m a h f (no-cause-room numbers (tableOf m) a e)
+pub no-cause-room : (t : Table) (a : Act) → roomCause t (some a) ≡ none → actOverflows t a ≡ false
+unfolding roomCause
+no-cause-room t a e = no-cause-head (actOverflows t a) TableFull _ e
 
 pub outcome-done : (cause : Option Refusal) → outcomeOf cause ≡ Done → cause ≡ none
 unfolding outcomeOf
@@ -222,12 +211,9 @@ unfolding outcomeOf
 outcome-refused none e = let z : _≡_ {A = ℕ} 0 1 = cc in absurd (omega arith)
 outcome-refused (some cause) e = cc
 
-module _ {numbers : Numbering} {act : Option Act} {m m′ : List ℕ} {r : Outcome} (C : CarriesOut numbers act m m′ r) where
-  pub carried-done : r ≡ Done → carryCause numbers (tableOf m) act ≡ none
+module _ {act : Option Act} {m m′ : List ℕ} {r : Outcome} (C : CarriesOut act m m′ r) where
+  pub carried-done : r ≡ Done → roomCause (tableOf m) act ≡ none
   carried-done e = outcome-done _ (sym (C .outcome) ∙ e)
 
-  pub carried-refused : {by : Refusal} → r ≡ Refused by → carryCause numbers (tableOf m) act ≡ some by
+  pub carried-refused : {by : Refusal} → r ≡ Refused by → roomCause (tableOf m) act ≡ some by
   carried-refused e = outcome-refused _ (sym (C .outcome) ∙ e)
-
-  pub carried-held : holds m ≡ true → fits act ≡ true → holds m′ ≡ true
-  carried-held h f = rw (C .memory) (acted-carried numbers m act h f .holding)

@@ -1,26 +1,23 @@
--- Laws of carrying an act out, step by step: the act of each action, what doing it leaves, and causes 8 and 9.
+-- Laws of carrying an act out, step by step: the act of each action, what doing it leaves, and cause 8.
 use Prim.Native.Nat.{ℕ, _≤_}
 use mathlib.Core.Path.{_≡_, refl, sym, _∙_}
-use mathlib.Core.List.{List, [], _∷_}
+use mathlib.Core.List.{List}
 use mathlib.Core.Option.{Option, none, some}
-use mathlib.Core.Bool.{Bool, true, false, cond}
+use mathlib.Core.Bool.{Bool, true, false}
 use native.Mathlib.Omega.{arith}
 use borrow.Author.Tests.{leb-true, not-true, not-false}
-use Rattle.refusals.specs.declared.Refusal.{Refusal}
-use Rattle.refusals.specs.declared.Refusal.the-variants.{TableFull, NumbersUsedUp}
-use Rattle.refusals.specs.Refusals.{when, firstCause}
+use Rattle.refusals.specs.declared.Refusal.the-variants.{TableFull}
+use Rattle.refusals.specs.Refusals.{firstCause}
 use Rattle.table.specs.declared.Kind.{Kind}
 use Rattle.table.specs.declared.Action.{Action}
 use Rattle.table.specs.declared.Action.the-variants.{Nothing, Insert, SetSwitches, Revoke, RevokeAll}
-use Rattle.table.specs.declared.Numbering.{Numbering}
-use Rattle.table.specs.declared.Outcome.{Outcome}
 use Rattle.table.specs.declared.Outcome.the-variants.{Done, Refused}
 use Rattle.table.specs.Entries.{Entry}
 use Rattle.table.specs.Tables.{maxSwitches, isEntry}
 use Rattle.table.specs.Acts.{Act, insert, setSwitches, revoke, revokeAll, isAct, actOverflows}
 use Rattle.table.specs.Memory.{tableOf, doAct, doActs}
-use Rattle.table.specs.Carrying.{usedUp, carryCause, actsOf, outcomeOf, actOf, actionOf, fits, CarriesOut}
-use Rattle.table.specs.Changing.{InsertsEntry, mayOverflow, DoesAct, noNumber}
+use Rattle.table.specs.Carrying.{roomCause, actsOf, outcomeOf, actOf, fits, CarriesOut}
+use Rattle.table.specs.Changing.{InsertsEntry, mayOverflow, DoesAct}
 
 -- ---- the act of each action
 
@@ -44,15 +41,6 @@ module _ {action : Action} (q : List ℕ) where
   pub act-revoke-all : action ≡ RevokeAll → actOf action q ≡ some revokeAll
   unfolding actOf
   act-revoke-all e = rw e
-
--- an action is that of its act, whatever path is lent beside it
-pub action-again : (action : Action) (q : List ℕ) → actionOf (actOf action q) ≡ action
-unfolding actionOf actOf
-action-again Nothing q = refl
-action-again (Insert kind) q = refl
-action-again (SetSwitches v) q = refl
-action-again Revoke q = refl
-action-again RevokeAll q = refl
 
 -- ---- what fits
 
@@ -79,42 +67,18 @@ module _ {a : Option Act} {m : List ℕ} where
   unfolding mayOverflow actsOf doActs
   does-act e o q = record { answer = rw (e, o); memory = rw (e, o) q }
 
--- ---- causes 8 and 9
+-- ---- cause 8
 
--- the cause of an act by whether it has room and whether a number is left
-by-tests : Bool → Bool → Option Refusal
-by-tests over up = firstCause (when over TableFull ∷ when up NumbersUsedUp ∷ [])
-
-used-outcome : (over : Bool) → outcomeOf (by-tests over true) ≡ cond over (Refused TableFull) (Refused NumbersUsedUp)
-unfolding by-tests firstCause outcomeOf
-used-outcome true = refl
-used-outcome false = refl
-
-used-acts : (over : Bool) (act : Act) → actsOf (by-tests over true) (some act) ≡ []
-unfolding by-tests firstCause actsOf
-used-acts true act = refl
-used-acts false act = refl
-
-module _ {numbers : Numbering} {m : List ℕ} where
-  -- no number is left
-  pub carries-unnumbered : (a : Option Act) {r : Outcome} → usedUp numbers ≡ true → r ≡ noNumber (tableOf m) a → CarriesOut numbers a m m r
-  unfolding noNumber carryCause outcomeOf actsOf doActs by-tests
-  carries-unnumbered none u e = record { outcome = e; memory = refl }
-  carries-unnumbered (some act) u e = record {
-    outcome = rw u (e ∙ sym (used-outcome (actOverflows (tableOf m) act)));
-    memory = rw (u, used-acts (actOverflows (tableOf m) act) act);
-  }
-
-  -- one is, and the act is done or has no room
-  pub carries-done : (a : Option Act) {m′ : List ℕ} {r : Bool} → usedUp numbers ≡ false → DoesAct a m m′ r → r ≡ true → CarriesOut numbers a m m′ Done
-  unfolding mayOverflow carryCause firstCause outcomeOf
-  carries-done none u D e = record { outcome = refl; memory = D .memory }
-  carries-done (some act) u D e =
+module _ {m : List ℕ} where
+  pub carries-done : (a : Option Act) {m′ : List ℕ} {r : Bool} → DoesAct a m m′ r → r ≡ true → CarriesOut a m m′ Done
+  unfolding mayOverflow roomCause firstCause outcomeOf
+  carries-done none D e = record { outcome = refl; memory = D .memory }
+  carries-done (some act) D e =
       let o : actOverflows (tableOf m) act ≡ false = not-true _ (sym (D .answer) ∙ e) in
-      record { outcome = rw (o, u); memory = rw (o, u) (D .memory ∙ rw o) }
+      record { outcome = rw o; memory = rw o (D .memory ∙ rw o) }
 
-  pub carries-full : (a : Option Act) {m′ : List ℕ} {r : Bool} → DoesAct a m m′ r → r ≡ false → CarriesOut numbers a m m′ (Refused TableFull)
-  unfolding mayOverflow carryCause firstCause outcomeOf actsOf doActs
+  pub carries-full : (a : Option Act) {m′ : List ℕ} {r : Bool} → DoesAct a m m′ r → r ≡ false → CarriesOut a m m′ (Refused TableFull)
+  unfolding mayOverflow roomCause firstCause outcomeOf actsOf doActs
   carries-full none D e = let z : _≡_ {A = ℕ} 0 1 = cc (D .answer) in absurd (omega arith)
   carries-full (some act) D e =
       let o : actOverflows (tableOf m) act ≡ true = not-false _ (sym (D .answer) ∙ e) in

@@ -1,34 +1,25 @@
--- What every call on a table keeps: memory that held a table holds one, no mark is cleared, and the call is the same wherever the table stands.
+-- What acts keep: memory that held a table holds one, no mark is cleared, and acts leave the same table wherever it stands.
 use Prim.Native.Nat.{ℕ}
 use mathlib.Core.Path.{_≡_, refl, sym, ap, _∙_}
 use mathlib.Core.List.{List, [], _∷_}
-use mathlib.Core.Option.{Option, none, some}
 use mathlib.Core.Bool.{Bool, true, false, or-true}
 use lib.Dec.{eqb}
-use borrow.Author.Tests.{le-leb, ltb-false}
 use Rattle.refusals.specs.declared.Refusal.{Refusal}
-use Rattle.refusals.specs.declared.Refusal.the-variants.{Unknown}
-use Rattle.refusals.specs.Refusals.{Result, refused, ok, andThen, unless}
-use Rattle.refusals.proofs.CauseLaws.{no-cause-head, unless-ok}
-use Rattle.paths.specs.Giving.{isPath, resolved}
-use Rattle.paths.proofs.GivingLaws.{resolved-fits}
+use Rattle.refusals.specs.Refusals.{Result, refused, ok, andThen}
 use Rattle.table.specs.declared.Dropped.the-variants.{Prefixes, All}
 use Rattle.table.specs.declared.Kind.{Kind}
 use Rattle.table.specs.declared.Kind.the-variants.{D, P, I}
-use Rattle.table.specs.declared.Numbering.{Numbering}
-use Rattle.table.specs.declared.Outcome.{Outcome}
 use Rattle.table.specs.declared.Place.{Place}
 use Rattle.table.specs.declared.Place.the-variants.{Found, At}
-use Rattle.table.specs.Entries.{Entry, kindNumber, isGranted, kindOf, knownKind}
+use Rattle.table.specs.Entries.{Entry, kindNumber, isGranted}
 use Rattle.table.specs.Placing.{place, placedAt}
-use Rattle.table.specs.Tables.{Table, has, hasFlagDenied, hasPromptDenied, hasFlagIgnored, isEntry, present, marksOf, isTable}
-use Rattle.table.specs.Acts.{Act, insert, setSwitches, revoke, revokeAll, inserted, insertedBy, isAct, applyAct, applyActs}
+use Rattle.table.specs.Tables.{Table, has, hasFlagDenied, hasPromptDenied, hasFlagIgnored, present, marksOf, isTable}
+use Rattle.table.specs.Acts.{Act, insert, setSwitches, revoke, revokeAll, inserted, insertedBy, applyAct, applyActs}
 use Rattle.table.specs.Memory.{tableOf, holds, doActs}
-use Rattle.table.specs.Carrying.{Link, carryCause, actsOf, fits}
-use Rattle.table.specs.Calls.{tableIn, linkIn, knownSwitches, carried, actsIn, switchesCall, insertCall, SetsSwitches, Inserts}
+use Rattle.table.specs.Calls.{tableIn}
 use Rattle.table.proofs.TableLaws.{any-more, marksBy, valid-parts}
 use Rattle.table.proofs.Puts.{valid-of}
-use Rattle.table.proofs.ActLaws.{present-without, dropped-grants, Acted, acted-none, acted-carried}
+use Rattle.table.proofs.ActLaws.{present-without, dropped-grants, Acted, acted-none}
 use Rattle.table.proofs.CallLaws.{a-table}
 
 -- ---- no act clears a mark: the marks are those of the kinds present, and no act drops an entry but a G
@@ -84,7 +75,7 @@ acted-keeps {m} {acts} h A =
       ignored = λ e. new .2 ∙ rw (A .table) (acts-present I refl (tableOf m) acts (sym (old .2) ∙ e));
     }
 
--- ---- what each call makes can be carried out
+-- ---- what a checking order makes can be carried out
 
 -- a step of the checking order that is refused makes no act
 pub step-acted : {A B : Type 0} (acts : Result B → List Act) → ((cause : Refusal) → acts (refused cause) ≡ []) → (m : List ℕ) (a : Result A) (f : A → Result B)
@@ -93,77 +84,11 @@ unfolding andThen
 step-acted acts n m (refused cause) f h k = rw (n cause) (acted-none m h)
 step-acted acts n m (ok x) f h k = k x refl
 
-no-acts : (cause : Refusal) → actsIn (refused cause) ≡ []
-unfolding actsIn
-no-acts cause = refl
-
-acts-by : (cause : Option Refusal) (act : Act) → actsOf cause (some act) ≡ actsIn (unless cause act)
-unfolding actsOf actsIn unless
-acts-by none act = refl
-acts-by (some cause) act = refl
-
-carried-acted : (numbers : Numbering) (m : List ℕ) (act : Act) → holds m ≡ true → isAct act ≡ true → Acted m (actsIn (carried numbers (tableOf m) act))
-unfolding carried fits
-carried-acted numbers m act h f = rw (acts-by (carryCause numbers (tableOf m) (some act)) act) at (acted-carried numbers m (some act) h f)
-
-switches-by : (v : ℕ) {k : ℕ} → knownSwitches v ≡ ok k → isAct (setSwitches k) ≡ true
-unfolding knownSwitches isAct
-switches-by v e =
-    let b = unless-ok _ v e in
-    rw (b .1) at (le-leb v _ (ltb-false _ _ (no-cause-head _ Unknown [] (b .0))))
-
-pub switches-acted : (link : Link) (m : List ℕ) (v : ℕ) → holds m ≡ true → Acted m (actsIn (switchesCall link m v))
-unfolding switchesCall
-switches-acted link m v h =
-    rw (a-table m h)
-    (unfold andThen in
-    step-acted actsIn no-acts m (linkIn 1 link) _ h (λ numbers f.
-    step-acted actsIn no-acts m (knownSwitches v) _ h (λ k e.
-    carried-acted numbers m (setSwitches k) h (switches-by v e))))
-
-insert-fits : (k : Kind) (q : List ℕ) → isPath q ≡ true → isAct (insert (record { kind = k; path = q })) ≡ true
-unfolding isAct isEntry
-insert-fits k q e = e
-
-pub insert-acted : (link : Link) (m : List ℕ) (kind : ℕ) (p cwd : List ℕ) → holds m ≡ true → Acted m (actsIn (insertCall link m kind p cwd))
-unfolding insertCall
-insert-acted link m kind p cwd h =
-    rw (a-table m h)
-    (unfold andThen in
-    step-acted actsIn no-acts m (linkIn 1 link) _ h (λ numbers g.
-    step-acted actsIn no-acts m (knownKind (kindOf kind)) _ h (λ k e.
-    step-acted actsIn no-acts m (resolved p cwd) _ h (λ q f.
-    carried-acted numbers m (insert (record { kind = k; path = q })) h (insert-fits k q (resolved-fits p cwd f))))))
-
--- ---- by the promises
-
-module _ (m : List ℕ) (v : ℕ) {m′ : List ℕ} {r : Outcome} (S : SetsSwitches m v m′ r) (h : holds m ≡ true) where
-  pub switches-held : holds m′ ≡ true
-  switches-held = rw (S .memory) (switches-acted _ m v h .holding)
-
-  pub switches-keep : Keeps (tableOf m .marks) (tableOf m′ .marks)
-  switches-keep = rw (S .memory) (acted-keeps h (switches-acted _ m v h))
-
-module _ (m : List ℕ) (kind : ℕ) (p cwd : List ℕ) {m′ : List ℕ} {r : Outcome} (S : Inserts m kind p cwd m′ r) (h : holds m ≡ true) where
-  pub insert-held : holds m′ ≡ true
-  insert-held = rw (S .memory) (insert-acted _ m kind p cwd h .holding)
-
-  pub insert-keeps : Keeps (tableOf m .marks) (tableOf m′ .marks)
-  insert-keeps = rw (S .memory) (acted-keeps h (insert-acted _ m kind p cwd h))
-
 -- ---- wherever the table stands: memory of another length, or with other bytes behind it
 
 module _ (m n : List ℕ) (h : holds m ≡ true) (k : holds n ≡ true) (e : tableOf m ≡ tableOf n) where
   pub same-table : tableIn m ≡ tableIn n
   same-table = a-table m h ∙ ap ok e ∙ sym (a-table n k)
-
-  pub same-switches : (link : Link) (v : ℕ) → switchesCall link m v ≡ switchesCall link n v
-  unfolding switchesCall
-  same-switches link v = rw same-table
-
-  pub same-insert : (link : Link) (kind : ℕ) (p cwd : List ℕ) → insertCall link m kind p cwd ≡ insertCall link n kind p cwd
-  unfolding insertCall
-  same-insert link kind p cwd = rw same-table
 
   -- and the same acts leave the same table
   pub same-after : (acts : List Act) → Acted m acts → Acted n acts → tableOf (doActs m acts) ≡ tableOf (doActs n acts)

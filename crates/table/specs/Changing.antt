@@ -4,9 +4,6 @@ use mathlib.Core.Path.{_≡_}
 use mathlib.Core.List.{List}
 use mathlib.Core.Option.{Option, none, some}
 use mathlib.Core.Bool.{Bool, false, not, cond}
-use Rattle.refusals.specs.declared.Refusal.the-variants.{TableFull, NumbersUsedUp}
-use Rattle.table.specs.declared.Outcome.{Outcome}
-use Rattle.table.specs.declared.Outcome.the-variants.{Done, Refused}
 use Rattle.table.specs.Entries.{Entry}
 use Rattle.table.specs.Placing.{search}
 use Rattle.table.specs.Tables.{Table}
@@ -34,8 +31,3 @@ mayOverflow t (some act) = actOverflows t act
 pub record DoesAct (act : Option Act) (m m′ : List ℕ) (done : Bool) : Type 0 where
   pub answer : done ≡ not (mayOverflow (tableOf m) act)
   pub memory : m′ ≡ cond (mayOverflow (tableOf m) act) m (doActs m (actsOf none act))
-
--- what an act comes to where no number is left
-unfoldable pub noNumber : Table → Option Act → Outcome
-noNumber t none = Done
-noNumber t (some act) = cond (actOverflows t act) (Refused TableFull) (Refused NumbersUsedUp)

@@ -38,11 +38,6 @@ const MAX_KIND: u8 = 3;
 
 pub const MAX_SWITCHES: u8 = 31;
 
-// The greatest change number, and the greatest run number.
-pub const MAX_NUMBER: u64 = 16777215;
-
-pub const MAX_RUN: u32 = 268435455;
-
 // Switches.
 pub const GRANTED: u8 = 1;
 
@@ -94,12 +89,6 @@ pub enum Action {
     SetSwitches(u8),
     Revoke,
     RevokeAll,
-}
-
-// Whether acts are numbered: a plain call numbers none, a linked one goes on after the main's last number.
-pub enum Numbering {
-    Plain,
-    After(u64),
 }
 
 // What a call on a table answers.

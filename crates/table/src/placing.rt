@@ -91,7 +91,7 @@ pub(crate) fn has_room(mem: &[u8], len: usize) -> bool
 }
 
 // Whether an insert would add an entry and finds no room for it.
-pub(crate) fn overflows(mem: &[u8], kind: Kind, path: &[u8]) -> bool
+pub fn overflows(mem: &[u8], kind: Kind, path: &[u8]) -> bool
     requires { ⌜ holds (now mem) ≡ true ⌝ }
     ensures { λ r. ⌜ r ≡ overflows (tableOf (now (mem .entry))) (record { kind = kind; path = now (path .entry) }) ⌝ }
 {

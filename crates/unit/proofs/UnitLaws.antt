@@ -17,10 +17,10 @@ use Rattle.walk.specs.declared.PermissionState.the-variants.{
 }
 use Rattle.walk.specs.declared.Answer.the-variants as answer
 use Rattle.walk.specs.Walk.{stateNumber}
-use Rattle.calls.specs.declared.PromptResponse.{PromptResponse}
-use Rattle.calls.specs.declared.ResponseRead.the-variants as read
-use Rattle.calls.specs.declared.Call.{Call}
-use Rattle.calls.specs.Decisions.{responseOf, knownResponse}
+use Rattle.deciding.specs.declared.PromptResponse.{PromptResponse}
+use Rattle.deciding.specs.declared.ResponseRead.the-variants as read
+use Rattle.deciding.specs.declared.Call.{Call}
+use Rattle.deciding.specs.Decisions.{responseOf, knownResponse}
 use Rattle.unit.specs.declared.StateRead.the-variants.{State, Unknown}
 use Rattle.unit.specs.declared.Decided.{Decided}
 use Rattle.unit.specs.declared.UnitAsked.{UnitAsked}

@@ -18,8 +18,8 @@ use Rattle.walk.specs.declared.PermissionState.the-variants.{
 use Rattle.walk.specs.declared.Answer.{Answer}
 use Rattle.walk.specs.declared.Answer.the-variants as answer
 use Rattle.walk.specs.Walk.{stateNumber}
-use Rattle.calls.specs.declared.Call.{Call}
-use Rattle.calls.specs.Decisions.{responseOf, knownResponse}
+use Rattle.deciding.specs.declared.Call.{Call}
+use Rattle.deciding.specs.Decisions.{responseOf, knownResponse}
 use Rattle.unit.specs.declared.StateRead.{StateRead}
 use Rattle.unit.specs.declared.StateRead.the-variants.{State, Unknown}
 use Rattle.unit.specs.declared.Decided.{Decided}

@@ -4,11 +4,11 @@ use mathlib.Core.Path.{_≡_}
 use mathlib.Core.Bool.{Bool, false}
 use Rattle.walk.specs.declared.PermissionState.the-variants.{Granted, Prompt}
 use Rattle.walk.specs.declared.Answer.the-variants.{State}
-use Rattle.calls.specs.declared.PromptResponse.{PromptResponse}
-use Rattle.calls.specs.declared.ResponseRead.the-variants.{Response}
-use Rattle.calls.specs.declared.Call.{Call}
-use Rattle.calls.specs.declared.Call.the-variants.{Check, Request}
-use Rattle.calls.specs.Decisions.{responseOf}
+use Rattle.deciding.specs.declared.PromptResponse.{PromptResponse}
+use Rattle.deciding.specs.declared.ResponseRead.the-variants.{Response}
+use Rattle.deciding.specs.declared.Call.{Call}
+use Rattle.deciding.specs.declared.Call.the-variants.{Check, Request}
+use Rattle.deciding.specs.Decisions.{responseOf}
 use Rattle.unit.specs.declared.UnitAsked.{UnitAsked}
 use Rattle.unit.specs.Calls.{AsksUnit}
 

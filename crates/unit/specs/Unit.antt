@@ -10,11 +10,11 @@ use Rattle.walk.specs.declared.PermissionState.the-variants.{
   DeniedPartial,
   Ignored,
 }
-use Rattle.calls.specs.declared.PromptResponse.{PromptResponse}
-use Rattle.calls.specs.declared.PromptResponse.the-variants.{Deny, Allow, AllowAll}
-use Rattle.calls.specs.declared.Call.{Call}
-use Rattle.calls.specs.declared.Call.the-variants.{Check, Request}
-use Rattle.calls.specs.Decisions.{stateBy}
+use Rattle.deciding.specs.declared.PromptResponse.{PromptResponse}
+use Rattle.deciding.specs.declared.PromptResponse.the-variants.{Deny, Allow, AllowAll}
+use Rattle.deciding.specs.declared.Call.{Call}
+use Rattle.deciding.specs.declared.Call.the-variants.{Check, Request}
+use Rattle.deciding.specs.Decisions.{stateBy}
 use Rattle.unit.specs.declared.Decided.{Decided}
 
 -- where a call asks, the answer settles the state; else it stays

@@ -1,17 +1,17 @@
 // A permission without a path, yes or no, the Rust's UnitPermission: one state, lent as its number, and the prompt setting. No memory and no space
 // is lent, and no text is written. The definitions are in specs/.
-use calls::Call;
-use calls::ResponseRead;
-use calls::asking::response_of;
+use deciding::Call;
+use deciding::ResponseRead;
+use deciding::responses::response_of;
 use refusals::Refusal;
 use walk::Answer;
 use walk::PermissionState;
 use walk::walking::state_number;
 ghost use mathlib.Core.Path.{_≡_};
-ghost use Rattle.calls.specs.declared.Call.the-variants.{Check, Request};
+ghost use Rattle.deciding.specs.declared.Call.the-variants.{Check, Request};
 ghost use Rattle.unit.specs.Calls.{stateOf, refusedUnit, AsksUnit, RevokesUnit};
 
-pub mod deciding;
+pub mod decisions;
 
 // The state that a number names, if it names one.
 pub enum StateRead {
@@ -67,7 +67,7 @@ fn ask(call: Call, state: &mut u32, prompt: bool, response: u32) -> UnitAsked
     let ResponseRead::Response(known) = response_of(response) else {
         return refused(Refusal::Unknown);
     };
-    let decided = deciding::decide(call, found, prompt, known);
+    let decided = decisions::decide(call, found, prompt, known);
     let left = decided.state;
     *state = state_number(left) as u32;
     UnitAsked {
@@ -97,7 +97,7 @@ pub fn revoke(state: &mut u32) -> Answer
     let StateRead::State(found) = state_of(*state) else {
         return Answer::Refused(Refusal::UnknownState);
     };
-    let left = deciding::revoked(found);
+    let left = decisions::revoked(found);
     *state = state_number(left) as u32;
     Answer::State(left)
 }

@@ -1,21 +1,16 @@
--- `permissions_child` meets its contract: the operator is asked at most once for each item.
-use mathlib.Core.Path.{refl, _∙_}
-use native.Mathlib.Omega.{arith}
+-- `permissions_child` meets its contract.
+use borrow.Author.Needs.{needs}
 use mir.Syntax.{w32}
 use Rattle.table.proofs.ComparisonLaws.{read-back}
-use Rattle.child.proofs.AskedLaws.{asked-few}
-use borrow.Author.Needs.{needs}
+use Rattle.results.proofs.PlainLaws.{child-plainly}
 use Rattle.permissions.proofs.permissions_child.Statement.{statement}
 use Rattle.permissions.proofs.permissions_child.Tie as tie
 
-create-child-permissions-requires : tie.Need-create-child-permissions-requires
-create-child-permissions-requires c κs = search needs
+slice-aggregate-created : tie.Need-slice-aggregate-created
+slice-aggregate-created c = search needs
 
-cast-told : tie.Need-cast-told
-cast-told c = omega (arith, asked-few (c .before .before .before .before .before .create-child-permissions .ensures))
-
-outcome-number-requires : tie.Need-outcome-number-requires
-outcome-number-requires c κs = search needs
+created-requires : tie.Need-created-requires
+created-requires c κs = search needs
 
 same-length : tie.Need-same-length
 same-length c = search needs
@@ -24,22 +19,14 @@ same-length-2 : tie.Need-same-length-2
 same-length-2 c = search needs
 
 returns : tie.Need-returns
-returns c =
-    let made = c .before .before .before .before .before .before .create-child-permissions in
-    record {
-      answered = made .result;
-      promise = made .ensures;
-      number = read-back w32 _ (c .outcome-number .ok) ∙ c .outcome-number .ensures;
-      asked = refl;
-    }
+returns c = rw (read-back w32 _ (c .before .before .before .before .before .created .ok)) (child-plainly (c .before .before .before .before .before .created .ensures))
 
 pub permissions-child-spec : {M : Type 1} → statement M
 permissions-child-spec =
     tie.close
     (tie.spec
-    create-child-permissions-requires
-    cast-told
-    outcome-number-requires
+    slice-aggregate-created
+    created-requires
     same-length
     same-length-2
     returns)

@@ -3,7 +3,7 @@ use mathlib.Core.Path.{sym, _∙_}
 use mir.Syntax.{w32}
 use borrow.Author.Tests.{not-true, not-false}
 use Rattle.table.proofs.ComparisonLaws.{read-back}
-use Rattle.permissions.proofs.ExportLaws.{entry-none, entry-some}
+use Rattle.results.proofs.ExportLaws.{entry-none, entry-some}
 use borrow.Author.Needs.{needs}
 use Rattle.permissions.proofs.permissions_entry.Statement.{statement}
 use Rattle.permissions.proofs.permissions_entry.Tie as tie

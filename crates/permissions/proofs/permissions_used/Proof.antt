@@ -5,7 +5,7 @@ use mir.Syntax.{w32}
 use mir.Facts.{toZ-pos}
 use borrow.Author.Tests.{not-true, not-false}
 use Rattle.table.proofs.ComparisonLaws.{read-back}
-use Rattle.permissions.proofs.ExportLaws.{used-none, used-some}
+use Rattle.results.proofs.ExportLaws.{used-none, used-some}
 use borrow.Author.Needs.{needs}
 use Rattle.permissions.proofs.permissions_used.Statement.{statement}
 use Rattle.permissions.proofs.permissions_used.Tie as tie

@@ -1,22 +1,66 @@
 -- `revoke` meets its contract: the first cause is found, or what is given is revoked.
-use mathlib.Core.Path.{sym, _∙_}
+use borrow.Author.Needs.{needs}
+use mathlib.Core.Path.{_≡_, sym, _∙_}
+use mathlib.Core.Bool.{true}
 use borrow.Author.Tests.{not-true, not-false}
+use denote.Ref.{now}
 use lib.Seq.{length-take-le}
 use Rattle.paths.proofs.GivingLaws.{gives-refused, gives-stands}
-use Rattle.table.proofs.CallLaws.{room-plain}
-use Rattle.calls.proofs.AskLaws.{revoke-no-table, revoke-ungiven, revoke-given, revokes-refused, revokes-query}
-use borrow.Author.Needs.{needs}
+use Rattle.table.specs.Memory.{holds}
+use Rattle.link.specs.Steps.{Admits}
+use Rattle.link.proofs.LinkLaws.{link-ready}
+use Rattle.calls.proofs.AskLaws.{revoke-no-table, revoke-short, revoke-unlinked, revoke-ungiven, revoke-given, revokes-refused, revokes-query}
 use Rattle.calls.proofs.revoking.revoke.Statement.{statement}
 use Rattle.calls.proofs.revoking.revoke.Tie as tie
 
+-- after the first test, the table; after the last of the link, what it was tested for
+held : (c : tie.Else1) → holds (now (c .before .before .before .before .before .before .before .args .mem)) ≡ true
+held c = sym (c .before .holds-table .ensures) ∙ not-false _ (c .if1 .left)
+
+admitted : (c : tie.Else3) → Admits 1 (c .before .before .before .before .before .before .before .before .before .before .before .before .args .link) (now (c .before .before .before .before .before .before .before .before .before .before .before .before .args .words))
+admitted c = record { roomy = sym (c .before .before .before .lacks-room .ensures) ∙ c .before .before .if2 .left; run = sym (c .before .lacks-run .ensures) ∙ c .if3 .left }
+
 holds-table-requires : tie.Need-holds-table-requires
 holds-table-requires c κs = search needs
+
+refused-requires : tie.Need-refused-requires
+refused-requires c κs = search needs
 
 same-length : tie.Need-same-length
 same-length c = search needs
 
 returns : tie.Need-returns
-returns c = revokes-refused (revoke-no-table _ _ _ _ _ (sym (c .before .holds-table .ensures) ∙ not-true _ (c .if1 .taken)))
+returns c = revokes-refused (revoke-no-table _ _ _ (sym (c .before .before .holds-table .ensures) ∙ not-true _ (c .before .if1 .taken))) (c .refused .ensures)
+
+lacks-room-requires : tie.Need-lacks-room-requires
+lacks-room-requires c κs = search needs
+
+refused-requires-2 : tie.Need-refused-requires-2
+refused-requires-2 c κs = search needs
+
+same-length-2 : tie.Need-same-length-2
+same-length-2 c = search needs
+
+same-length-3 : tie.Need-same-length-3
+same-length-3 c = search needs
+
+returns-2 : tie.Need-returns-2
+returns-2 c = revokes-refused (revoke-short _ _ _ (held (c .before .before .before .before)) (sym (c .before .before .lacks-room .ensures) ∙ c .before .if2 .taken)) (c .refused2 .ensures)
+
+lacks-run-requires : tie.Need-lacks-run-requires
+lacks-run-requires c κs = search needs
+
+refused-requires-3 : tie.Need-refused-requires-3
+refused-requires-3 c κs = search needs
+
+same-length-4 : tie.Need-same-length-4
+same-length-4 c = search needs
+
+same-length-5 : tie.Need-same-length-5
+same-length-5 c = search needs
+
+returns-3 : tie.Need-returns-3
+returns-3 c = revokes-refused (revoke-unlinked _ _ _ (held (c .before .before .before .before .before .before)) (sym (c .before .before .before .before .lacks-room .ensures) ∙ c .before .before .before .if2 .left) (sym (c .before .before .lacks-run .ensures) ∙ c .before .if3 .taken)) (c .refused3 .ensures)
 
 resolve-given-requires : tie.Need-resolve-given-requires
 resolve-given-requires c κs = search needs
@@ -24,56 +68,67 @@ resolve-given-requires c κs = search needs
 enum-known-cause : tie.Need-enum-known-cause
 enum-known-cause c = search needs
 
+refused-requires-4 : tie.Need-refused-requires-4
+refused-requires-4 c κs = search needs
+
 enum-known-n : tie.Need-enum-known-n
 enum-known-n c = search needs
 
 array-share-prefix-space : tie.Need-array-share-prefix-space
-array-share-prefix-space c = gives-stands (c .before .before .before .before .resolve-given .ensures) (c .before .before .n .given .1) .room
+array-share-prefix-space c = gives-stands (c .before .before .before .before .before .before .resolve-given .ensures) (c .before .before .before .before .n .given .1) .room
 
 slice-aggregate-revoke-query : tie.Need-slice-aggregate-revoke-query
-slice-aggregate-revoke-query c = sym (length-take-le _ _ (gives-stands (c .before .before .before .before .before .resolve-given .ensures) (c .before .before .before .n .given .1) .room))
+slice-aggregate-revoke-query c = sym (length-take-le _ _ (array-share-prefix-space (c .before)))
 
 revoke-query-requires : tie.Need-revoke-query-requires
-revoke-query-requires c κs =
-    (sym (c .before .before .before .before .before .before .before .before .holds-table .ensures) ∙ not-false _ (c .before .before .before .before .before .before .before .if1 .left), gives-stands (c .before .before .before .before .before .resolve-given .ensures) (c .before .before .before .n .given .1) .fits)
+revoke-query-requires c κs = (held (c .before .before .before .before .before .before .before .before .before .before .before .before .before .before), link-ready (admitted (c .before .before .before .before .before .before .before .before .before)), gives-stands (c .before .before .before .before .before .before .before .resolve-given .ensures) (c .before .before .before .before .before .n .given .1) .fits)
 
-same-length-2 : tie.Need-same-length-2
-same-length-2 c = search needs
+same-length-6 : tie.Need-same-length-6
+same-length-6 c = search needs
 
-returns-2 : tie.Need-returns-2
-returns-2 c =
-    let asked = c .before .before .before in
-    let held = asked .before .before in
-    revokes-refused
-    (revoke-ungiven _ _ _ _ _ (sym (held .before .holds-table .ensures) ∙ not-false _ (held .if1 .left)) (room-plain 1)
-    (gives-refused (asked .resolve-given .ensures) (c .before .cause .given .1)))
+same-length-7 : tie.Need-same-length-7
+same-length-7 c = search needs
 
-same-length-3 : tie.Need-same-length-3
-same-length-3 c = search needs
+returns-4 : tie.Need-returns-4
+returns-4 c = revokes-refused (revoke-ungiven _ _ _ (held (c .before .before .before .before .before .before .before .before .before .before .before)) (admitted (c .before .before .before .before .before .before)) (gives-refused (c .before .before .before .before .resolve-given .ensures) (c .before .before .cause .given .1))) (c .refused4 .ensures)
 
-returns-3 : tie.Need-returns-3
-returns-3 c =
-    let asked = c .before .before .before .before .before .before .before .before in
-    let held = asked .before .before in
-    revokes-query
-    (revoke-given _ _ _ _ _ (sym (held .before .holds-table .ensures) ∙ not-false _ (held .if1 .left)) (room-plain 1) _
-    (gives-stands (asked .resolve-given .ensures) (c .before .before .before .before .before .before .n .given .1) .query))
-    (c .before .before .revoke-query .ensures)
+same-length-8 : tie.Need-same-length-8
+same-length-8 c = search needs
+
+same-length-9 : tie.Need-same-length-9
+same-length-9 c = search needs
+
+returns-5 : tie.Need-returns-5
+returns-5 c = revokes-query (revoke-given _ _ _ (held (c .before .before .before .before .before .before .before .before .before .before .before .before .before .before .before .before .before .before .before)) (admitted (c .before .before .before .before .before .before .before .before .before .before .before .before .before .before)) _ (gives-stands (c .before .before .before .before .before .before .before .before .before .before .before .before .resolve-given .ensures) (c .before .before .before .before .before .before .before .before .before .before .n .given .1) .query)) (c .before .before .before .before .revoke-query .ensures)
 
 pub revoke-spec : {M : Type 1} → statement M
 revoke-spec =
     tie.close
     (tie.spec
     holds-table-requires
+    refused-requires
     same-length
     returns
+    lacks-room-requires
+    refused-requires-2
+    same-length-2
+    same-length-3
+    returns-2
+    lacks-run-requires
+    refused-requires-3
+    same-length-4
+    same-length-5
+    returns-3
     resolve-given-requires
     enum-known-cause
+    refused-requires-4
     enum-known-n
     array-share-prefix-space
     slice-aggregate-revoke-query
     revoke-query-requires
-    same-length-2
-    returns-2
-    same-length-3
-    returns-3)
+    same-length-6
+    same-length-7
+    returns-4
+    same-length-8
+    same-length-9
+    returns-5)

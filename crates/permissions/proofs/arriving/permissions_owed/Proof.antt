@@ -2,7 +2,7 @@
 use mathlib.Core.Path.{sym, ap, _∙_}
 use mir.Syntax.{w32}
 use Rattle.table.proofs.ComparisonLaws.{read-back}
-use Rattle.permissions.specs.Numbers.{owedNumber, owedCount}
+use Rattle.results.specs.Numbers.{owedNumber, owedCount}
 use borrow.Author.Needs.{needs}
 use Rattle.permissions.proofs.arriving.permissions_owed.Statement.{statement}
 use Rattle.permissions.proofs.arriving.permissions_owed.Tie as tie

@@ -1,12 +1,12 @@
 -- `permissions_linked_check` meets its contract.
+use borrow.Author.Needs.{needs}
 use mir.Syntax.{w32}
 use Rattle.table.proofs.ComparisonLaws.{read-back}
-use borrow.Author.Needs.{needs}
 use Rattle.permissions.proofs.linking.permissions_linked_check.Statement.{statement}
 use Rattle.permissions.proofs.linking.permissions_linked_check.Tie as tie
 
-linked-asked-requires : tie.Need-linked-asked-requires
-linked-asked-requires c κs = search needs
+asked-requires : tie.Need-asked-requires
+asked-requires c κs = search needs
 
 same-length : tie.Need-same-length
 same-length c = search needs
@@ -18,8 +18,14 @@ same-length-3 : tie.Need-same-length-3
 same-length-3 c = search needs
 
 returns : tie.Need-returns
-returns c = let asked = c .before .before .before .before .before .before .linked-asked in rw (read-back w32 _ (asked .ok)) (asked .ensures)
+returns c = rw (read-back w32 _ (c .before .before .before .before .before .before .asked .ok)) (c .before .before .before .before .before .before .asked .ensures)
 
 pub permissions-linked-check-spec : {M : Type 1} → statement M
 permissions-linked-check-spec =
-    tie.close (tie.spec linked-asked-requires same-length same-length-2 same-length-3 returns)
+    tie.close
+    (tie.spec
+    asked-requires
+    same-length
+    same-length-2
+    same-length-3
+    returns)

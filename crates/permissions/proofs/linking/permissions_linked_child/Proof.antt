@@ -1,21 +1,12 @@
--- `permissions_linked_child` meets its contract: the operator is asked at most once for each item.
-use mathlib.Core.Path.{refl, _∙_}
-use native.Mathlib.Omega.{arith}
+-- `permissions_linked_child` meets its contract.
+use borrow.Author.Needs.{needs}
 use mir.Syntax.{w32}
 use Rattle.table.proofs.ComparisonLaws.{read-back}
-use Rattle.link.proofs.ChildLaws.{linked-asked-few}
-use borrow.Author.Needs.{needs}
 use Rattle.permissions.proofs.linking.permissions_linked_child.Statement.{statement}
 use Rattle.permissions.proofs.linking.permissions_linked_child.Tie as tie
 
-create-child-permissions-requires : tie.Need-create-child-permissions-requires
-create-child-permissions-requires c κs = search needs
-
-cast-told : tie.Need-cast-told
-cast-told c = omega (arith, linked-asked-few (c .before .before .before .before .before .before .before .before .create-child-permissions .ensures))
-
-outcome-number-requires : tie.Need-outcome-number-requires
-outcome-number-requires c κs = search needs
+created-requires : tie.Need-created-requires
+created-requires c κs = search needs
 
 same-length : tie.Need-same-length
 same-length c = search needs
@@ -27,23 +18,13 @@ same-length-3 : tie.Need-same-length-3
 same-length-3 c = search needs
 
 returns : tie.Need-returns
-returns c =
-    let made = c .before .before .before .before .before .before .before .before .before .create-child-permissions in
-    record {
-      answered = made .result;
-      promise = made .ensures;
-      number = read-back w32 _ (c .outcome-number .ok) ∙ c .outcome-number .ensures;
-      asked = refl;
-      words = refl;
-    }
+returns c = rw (read-back w32 _ (c .before .before .before .before .before .before .created .ok)) (c .before .before .before .before .before .before .created .ensures)
 
 pub permissions-linked-child-spec : {M : Type 1} → statement M
 permissions-linked-child-spec =
     tie.close
     (tie.spec
-    create-child-permissions-requires
-    cast-told
-    outcome-number-requires
+    created-requires
     same-length
     same-length-2
     same-length-3

@@ -1,0 +1,5 @@
+pub mod ActionLaws
+pub mod DecisionLaws
+pub mod FittingLaws
+pub mod TextLaws
+pub mod QuestionLaws

@@ -1,0 +1,24 @@
+-- `revoke_action` meets its contract, with a path and with none.
+use Rattle.paths.specs.Giving.{queryOf}
+use Rattle.table.specs.Carrying.{actOf}
+use Rattle.deciding.specs.Decisions.{revokeAct}
+use borrow.Author.Needs.{needs}
+use Rattle.deciding.proofs.decisions.revoke_action.Statement.{statement}
+use Rattle.deciding.proofs.decisions.revoke_action.Tie as tie
+
+enum-told : tie.Need-enum-told
+enum-told c = search needs
+
+enum-told-2 : tie.Need-enum-told-2
+enum-told-2 c = search needs
+
+returns : tie.Need-returns
+unfolding queryOf revokeAct actOf
+returns c q = rw (c .enum-told .given .1)
+
+returns-2 : tie.Need-returns-2
+unfolding queryOf revokeAct actOf
+returns-2 c q = rw (c .enum-told2 .given .1)
+
+pub revoke-action-spec : {M : Type 1} → statement M
+revoke-action-spec = tie.close (tie.spec enum-told enum-told-2 returns returns-2)

@@ -1,0 +1,4 @@
+pub mod Decisions
+pub mod Texts
+pub mod Questions
+pub mod Steps

@@ -54,7 +54,7 @@ unfoldable pub childActs : Result Creation → List Act
 childActs (refused cause) = []
 childActs (ok s) = s .made .acts
 
--- after a refusal on the way the child is fresh; after it stands what the half-made table left there
+-- after a refusal on the way the child is fresh; the bytes that follow its head are what the half-made table left
 unfoldable pub childLeft : Option Refusal → List ℕ → List ℕ
 childLeft none c = c
 childLeft (some cause) c = put fresh c

@@ -1,4 +1,6 @@
 // The calls switches, insert, check, request and revoke, each one function, plain or linked: it decides first, and then performs its act. The definitions are in specs/.
+#![tactic(auto)]
+
 use refusals::Refusal;
 use walk::{Answer, PermissionState};
 
@@ -8,7 +10,7 @@ pub mod revoking;
 
 // What a call comes to whose act is carried out: why it is refused, or its state, whether the operator was asked, whether a text is due, how
 // many bytes the resolved path has, and where its record ends.
-#[derive(Drop)]
+#[derive(Clone, Copy)]
 pub enum Settled {
     Refused(Refusal),
     Decided(PermissionState, bool, bool, usize, usize),
@@ -16,7 +18,7 @@ pub enum Settled {
 
 // What check and request answer: a state, Granted where a check passes, or why the call is refused; whether the operator was asked; how
 // many bytes of the text space hold the text; and how many words of the record space its record.
-#[derive(Drop)]
+#[derive(Clone, Copy)]
 pub struct Asked {
     pub answer: Answer,
     pub asked: bool,
@@ -25,7 +27,7 @@ pub struct Asked {
 }
 
 // What revoke answers, and how many words of the record space hold its record.
-#[derive(Drop)]
+#[derive(Clone, Copy)]
 pub struct Revoked {
     pub answer: Answer,
     pub words: usize,

@@ -1,4 +1,6 @@
 // What check, request and revoke decide, their texts, and what a call would ask. Nothing here changes a table. The definitions are in specs/.
+#![tactic(auto)]
+
 use refusals::Refusal;
 use table::Action;
 use walk::PermissionState;
@@ -12,7 +14,7 @@ pub mod texts;
 pub const TEXT_BYTES: usize = 1041;
 
 // The operator's answer, with the Rust's names: the scope's Deny, Allow and AllowAll, in its order.
-#[derive(Drop)]
+#[derive(Clone, Copy)]
 pub enum PromptResponse {
     Deny,
     Allow,
@@ -20,14 +22,14 @@ pub enum PromptResponse {
 }
 
 // The answer that a number names, if it names one.
-#[derive(Drop)]
+#[derive(Clone, Copy)]
 pub enum ResponseRead {
     Response(PromptResponse),
     Unknown,
 }
 
 // The calls that may ask the operator. They differ in their decision alone.
-#[derive(Drop)]
+#[derive(Clone, Copy)]
 pub enum Call {
     Check,
     Request,
@@ -35,7 +37,7 @@ pub enum Call {
 
 // What a call decides: the state that it comes to, Granted where a check passes; whether the operator was asked; whether a text is due; and
 // the act that is still to be carried out.
-#[derive(Drop)]
+#[derive(Clone, Copy)]
 pub struct Decided {
     pub state: PermissionState,
     pub asked: bool,
@@ -44,7 +46,7 @@ pub struct Decided {
 }
 
 // What a call would ask the operator: a question with so many bytes of text, or nothing; or why the call would be refused.
-#[derive(Drop)]
+#[derive(Clone, Copy)]
 pub enum Question {
     Asks(usize),
     AsksNothing,

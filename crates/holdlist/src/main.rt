@@ -1,5 +1,7 @@
 // `holdlist` reads records from standard input into a fresh standby, and prints what it holds. Scope, "Handover, at the top". The
 // definitions are in specs/.
+#![tactic(auto)]
+
 ghost use Rattle.std.specs.Prelude.{◌≡◌, length};
 ghost use Rattle.input.specs.Parts.{buffer_bytes};
 ghost use Rattle.holdlist.specs.Input.{HoldsInput};
@@ -21,7 +23,7 @@ mod reading;
 const KEPT_BYTES: usize = 4 * RECORD_WORDS - 1;
 
 // What was held of the input so far: the standby's numbers, the words taken, and whether reading stopped after them.
-#[derive(Drop)]
+#[derive(Clone, Copy)]
 pub struct Held {
     pub numbers: Numbers,
     pub words: usize,
@@ -29,7 +31,7 @@ pub struct Held {
 }
 
 // What reading all of the input answers.
-#[derive(Drop)]
+#[derive(Clone, Copy)]
 enum Input {
     Held(Held),
     Unreadable,

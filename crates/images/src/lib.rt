@@ -1,5 +1,7 @@
 // Images: a whole table with its run and the number of its last change as 32-bit words, written, read back, and loaded into memory. The definitions are in
 // specs/.
+#![tactic(auto)]
+
 use table::Kind;
 
 pub mod loading;
@@ -24,7 +26,7 @@ const IMAGE_HEAD: usize = 3;
 
 // What reading an entry answers: its kind, how many bytes its path has in the lent space, and where the words behind it begin; or that the
 // words are malformed.
-#[derive(Drop)]
+#[derive(Clone, Copy)]
 pub enum EntryRead {
     Malformed,
     Entry(Kind, usize, usize),
@@ -32,7 +34,7 @@ pub enum EntryRead {
 
 // What reading an image answers: its run, its number, the table's switches and marks, and how many entries it has; or that the words are malformed
 // or their content is no table.
-#[derive(Drop)]
+#[derive(Clone, Copy)]
 pub enum ImageRead {
     Malformed,
     Image(u32, u64, u8, u8, usize),

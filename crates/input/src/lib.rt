@@ -1,5 +1,7 @@
 // Standard input, part by part: what a turn of a loop over it does whoever takes its bytes, and the words in bytes. The definitions are in
 // specs/.
+#![tactic(auto)]
+
 pub mod parts;
 pub mod words;
 
@@ -8,7 +10,7 @@ pub mod words;
 pub const READS: u64 = 0x1_0000_0000_0000;
 
 // What one read answers: how many bytes came, 0 at the input's end.
-#[derive(Drop)]
+#[derive(Clone, Copy)]
 pub enum Came {
     Bytes(usize),
     Failed,

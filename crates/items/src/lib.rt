@@ -1,5 +1,7 @@
 // A list of paths with the operator's answer for each, as a call is handed one: the bytes of the paths one after the other, and the position at which each ends. The
 // definitions are in specs/.
+#![tactic(auto)]
+
 ghost use Rattle.std.specs.Prelude.{◌≡◌, true, ◌<◌, length, get_or};
 ghost use Rattle.deciding.specs.declared.ResponseRead.TheVariants.{Response};
 ghost use Rattle.deciding.specs.Decisions.{response_of};

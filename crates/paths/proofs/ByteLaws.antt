@@ -79,7 +79,7 @@ entered-bytes {done} c A B =
 entered_all : {done cs : List (List ℕ)} → AllBytes done → AllBytes cs → AllBytes (enter_all done cs)
 unfolding enter_all
 entered_all A no-piece = A
-entered_all A (piece {c = c} B D) = entered_all (entered-bytes c A B) D
+entered_all {done = done} A (piece {c = c} B D) = entered_all {done = entered done c} (entered-bytes c A B) D
 
 slashed-bytes : {cs : List (List ℕ)} → AllBytes cs → Bytes (slashed cs)
 unfolding slashed

@@ -201,8 +201,8 @@ entered-slashed c u = entered_by (same c []) (same c (dot ∷ [])) (same c (dot 
 enter_all-slashed : {done cs : List (List ℕ)} → Each Unslashed done → Each Unslashed cs → enter_all_bytes (slashed done) cs ≡ slashed (enter_all done cs)
 unfolding enter_all_bytes enter_all
 enter_all-slashed u nil = refl
-enter_all-slashed u (cons {c = c} {cs = cs} p v) =
-    ap (λ (w : List ℕ). enter_all_bytes w cs) (entered-slashed c u) ∙ enter_all-slashed (each-entered c u (λ n. p)) v
+enter_all-slashed {done = done} u (cons {c = c} {cs = cs} p v) =
+    ap (λ (w : List ℕ). enter_all_bytes w cs) (entered-slashed c u) ∙ enter_all-slashed {done = entered done c} (each-entered c u (λ n. p)) v
 
 -- ---- a joined path has the components of both parts
 

@@ -55,12 +55,12 @@ enter_all-names done (cons {c = c} {cs = cs} n u) =
 pub names-enter_all : {done : List (List ℕ)} (cs : List (List ℕ)) → Each Name done → Each Name (enter_all done cs)
 unfolding enter_all
 names-enter_all [] u = u
-names-enter_all (c ∷ cs) u = names-enter_all cs (each-entered c u (λ n. n))
+names-enter_all {done = done} (c ∷ cs) u = names-enter_all {done = entered done c} cs (each-entered c u (λ n. n))
 
 pub unslashed-enter_all : {done cs : List (List ℕ)} → Each Unslashed done → Each Unslashed cs → Each Unslashed (enter_all done cs)
 unfolding enter_all
 unslashed-enter_all u nil = u
-unslashed-enter_all u (cons {c = c} p v) = unslashed-enter_all (each-entered c u (λ n. p)) v
+unslashed-enter_all {done = done} u (cons {c = c} p v) = unslashed-enter_all {done = entered done c} (each-entered c u (λ n. p)) v
 
 -- ---- spelling names
 

@@ -1,4 +1,6 @@
 // Paths: resolving one, and how two of them relate. The definitions are in specs/.
+#![tactic(auto)]
+
 use refusals::Refusal;
 
 pub mod copying;
@@ -13,7 +15,7 @@ pub const MAX_PATH: usize = 1024;
 const JOINED_BYTES: usize = 2050;
 
 // How one path relates to another.
-#[derive(Drop)]
+#[derive(Clone, Copy)]
 pub enum Relation {
     Equal,
     // A prefix of the other, by whole components, and not equal.
@@ -26,28 +28,28 @@ pub enum Relation {
 }
 
 // What the comparison of two paths finds: how one relates to the other, and the number of leading components below the root that both share.
-#[derive(Drop)]
+#[derive(Clone, Copy)]
 pub struct Comparison {
     pub relation: Relation,
     pub common: usize,
 }
 
 // What a call is given: no path, or the path whose bytes are lent beside it.
-#[derive(Drop)]
+#[derive(Clone, Copy)]
 pub enum Descriptor {
     NoPath,
     Path,
 }
 
 // What resolving a path answers: the length of the resolved path, or why there is none.
-#[derive(Drop)]
+#[derive(Clone, Copy)]
 pub enum Resolution {
     Resolved(usize),
     Refused(Refusal),
 }
 
 // What comparing two paths as given answers: what is found, or why nothing is compared.
-#[derive(Drop)]
+#[derive(Clone, Copy)]
 pub enum Compared {
     Comparison(Comparison),
     Refused(Refusal),

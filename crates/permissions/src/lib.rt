@@ -1,6 +1,8 @@
 // The calls for the controller's C program: numbers and byte slices, over a table in lent memory. permissions.h documents them for C.
 // A negative result −n is refusal n of the scope. Where a call answers more than one number, the others go to lent numbers, which are always
 // written.
+#![tactic(auto)]
+
 ghost use Rattle.std.specs.Prelude.{[]};
 ghost use Rattle.paths.specs.declared.Descriptor.TheVariants.{NoPath, Path};
 ghost use Rattle.deciding.specs.declared.Call.TheVariants.{Check, Request};

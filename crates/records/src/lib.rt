@@ -1,4 +1,6 @@
 // Records: a change of the main's table as 32-bit words, written and read back. The definitions are in specs/.
+#![tactic(auto)]
+
 use table::Action;
 
 pub mod numbers;
@@ -35,14 +37,14 @@ const PATH_ROOM: usize = 1026;
 
 // What reading a record answers: its run, its number, its act, how many bytes its path has in the lent space, and where the words behind it
 // begin; or that the words are malformed.
-#[derive(Drop)]
+#[derive(Clone, Copy)]
 pub enum Record {
     Malformed,
     Change(u32, u64, Action, usize, usize),
 }
 
 // What reading a path answers: how many bytes it has, and where the words behind it begin; or that the words are malformed.
-#[derive(Drop)]
+#[derive(Clone, Copy)]
 pub enum PathRead {
     Malformed,
     Path(usize, usize),

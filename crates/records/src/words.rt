@@ -4,28 +4,28 @@ ghost use Rattle.std.specs.Prelude.{◌≡◌, ◌-◌, length};
 ghost use Rattle.records.specs.Words.{read_at, past, front_at};
 
 // The lent words, and the place of the next one.
-#[derive(Drop)]
+#[derive(Clone, Copy)]
 pub struct Reader<'a> {
     pub words: &'a [u32],
     pub at: usize,
 }
 
 // What stands at a place: a word, or behind the last one the end.
-#[derive(Drop)]
+#[derive(Clone, Copy)]
 pub enum Word {
     Is(u32),
     End,
 }
 
 // What was read at a place, and the place behind it.
-#[derive(Drop)]
+#[derive(Clone, Copy)]
 pub struct WordRead {
     pub word: Word,
     pub at: usize,
 }
 
 // What a record or an image begins with: its run word, its head, the word behind that, the place behind all three, and how many words are left there.
-#[derive(Drop)]
+#[derive(Clone, Copy)]
 pub struct Front {
     pub run: Word,
     pub head: Word,

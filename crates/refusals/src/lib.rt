@@ -1,8 +1,10 @@
 // Why a call is refused: every cause of the scope, in its checking order. The definitions are in specs/.
+#![tactic(auto)]
+
 ghost use Rattle.std.specs.Prelude.{◌≡◌};
 ghost use Rattle.refusals.specs.Refusals.{refusal_number};
 
-#[derive(Drop)]
+#[derive(Clone, Copy)]
 pub enum Refusal {
     // Lent memory is too small for a table or holds none, or the standby's n is above its h.
     NoTable,

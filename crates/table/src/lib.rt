@@ -1,4 +1,6 @@
 // The table: entries in sequence, switches and marks, in lent memory, and the acts on it. The definitions are in specs/.
+#![tactic(auto)]
+
 use refusals::Refusal;
 
 pub mod acting;
@@ -57,7 +59,7 @@ pub const HAS_PROMPT_DENIED: u8 = 2;
 pub const HAS_FLAG_IGNORED: u8 = 4;
 
 // The kinds of an entry, by the scope's letters. The Rust's names are Granted, FlagDenied, PromptDenied and FlagIgnored.
-#[derive(Drop)]
+#[derive(Clone, Copy)]
 pub enum Kind {
     G,
     D,
@@ -66,28 +68,28 @@ pub enum Kind {
 }
 
 // The kind that a number names, if it names one.
-#[derive(Drop)]
+#[derive(Clone, Copy)]
 pub enum KindRead {
     Kind(Kind),
     Unknown,
 }
 
 // Where an insert puts its entry: nowhere, as an equal one is found, or at a place of the list.
-#[derive(Drop)]
+#[derive(Clone, Copy)]
 pub enum Place {
     Found,
     At(usize),
 }
 
 // Which grants an act drops: those whose path is a prefix of the act's, or all.
-#[derive(Drop)]
+#[derive(Clone, Copy)]
 pub enum Dropped {
     Prefixes,
     All,
 }
 
 // What a call makes of a table: nothing, or an act, without its path, which is lent beside it.
-#[derive(Drop)]
+#[derive(Clone, Copy)]
 pub enum Action {
     Nothing,
     Insert(Kind),
@@ -97,21 +99,21 @@ pub enum Action {
 }
 
 // What a call on a table answers.
-#[derive(Drop)]
+#[derive(Clone, Copy)]
 pub enum Outcome {
     Done,
     Refused(Refusal),
 }
 
 // A place in a table's list: where the entry there begins, and how many entries are left, it among them.
-#[derive(Drop)]
+#[derive(Clone, Copy)]
 pub struct Cursor {
     at: usize,
     left: usize,
 }
 
 // The entry at a place of a table's list: its kind, where its path begins in the memory and how many bytes it has; or no entry.
-#[derive(Drop)]
+#[derive(Clone, Copy)]
 pub enum Listed {
     Entry(Kind, usize, usize),
     Nothing,

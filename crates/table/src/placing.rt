@@ -9,7 +9,7 @@ ghost use Rattle.table.specs.Changing.{SearchEnds};
 use crate::{ENTRY_HEAD, Kind, MAX_ENTRIES, MAX_PATH_BYTES, Place, TABLE_HEAD, comparing, reading};
 
 // Where a search ends: a place of the list, and where the entry there begins.
-#[derive(Drop)]
+#[derive(Clone, Copy)]
 struct Probe {
     base: usize,
     at: usize,

@@ -1,5 +1,7 @@
 // Pieces of a line of text, each written into lent space: escaped paths, numbers in decimal, and the letters of kinds. The definitions are in
 // specs/.
+#![tactic(auto)]
+
 ghost use Rattle.std.specs.Prelude.{◌≡◌};
 ghost use Rattle.text.specs.Text.{kind_letter};
 

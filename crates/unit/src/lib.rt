@@ -1,5 +1,7 @@
 // A permission without a path, yes or no, the Rust's UnitPermission: one state, lent as its number, and the prompt setting. No memory and no space
 // is lent, and no text is written. The definitions are in specs/.
+#![tactic(auto)]
+
 ghost use Rattle.std.specs.Prelude.{◌≡◌};
 ghost use Rattle.deciding.specs.declared.Call.TheVariants.{Check, Request};
 ghost use Rattle.unit.specs.Calls.{state_of, refused_unit, AsksUnit, RevokesUnit};
@@ -13,14 +15,14 @@ use walk::{Answer, PermissionState};
 pub mod decisions;
 
 // The state that a number names, if it names one.
-#[derive(Drop)]
+#[derive(Clone, Copy)]
 pub enum StateRead {
     State(PermissionState),
     Unknown,
 }
 
 // What a call decides: the state that it leaves, and whether the operator was asked.
-#[derive(Drop)]
+#[derive(Clone, Copy)]
 pub struct Decided {
     pub state: PermissionState,
     pub asked: bool,
@@ -28,7 +30,7 @@ pub struct Decided {
 
 // What check and request answer: the state that they leave, Granted where a check passes, or why the call is refused; and whether the operator was
 // asked.
-#[derive(Drop)]
+#[derive(Clone, Copy)]
 pub struct UnitAsked {
     pub answer: Answer,
     pub asked: bool,

@@ -1,4 +1,6 @@
 // What a query answers. The definitions are in specs/.
+#![tactic(auto)]
+
 use refusals::Refusal;
 use table::Kind;
 
@@ -6,7 +8,7 @@ pub mod querying;
 pub mod walking;
 
 // The answer of a query, with the Rust's names in the Rust's order.
-#[derive(Drop)]
+#[derive(Clone, Copy)]
 pub enum PermissionState {
     Granted,
     GrantedPartial,
@@ -17,7 +19,7 @@ pub enum PermissionState {
 }
 
 // The mode of a query, with the Rust's names: the scope's modes denied, partial and granted, in its order.
-#[derive(Drop)]
+#[derive(Clone, Copy)]
 pub enum AllowPartial {
     TreatAsDenied,
     TreatAsPartialGranted,
@@ -25,35 +27,35 @@ pub enum AllowPartial {
 }
 
 // The mode that a number names, if it names one.
-#[derive(Drop)]
+#[derive(Clone, Copy)]
 pub enum ModeRead {
     Mode(AllowPartial),
     Unknown,
 }
 
 // What one comparison tells of an entry's path: whether it is a prefix of the query's, and whether that is a prefix of it.
-#[derive(Drop)]
+#[derive(Clone, Copy)]
 pub(crate) struct Met {
     pub above: bool,
     pub below: bool,
 }
 
 // The kind of the first match, if there is one.
-#[derive(Drop)]
+#[derive(Clone, Copy)]
 pub(crate) enum FirstMatch {
     Nothing,
     Match(Kind),
 }
 
 // What was seen of the entries read so far: the first match, and whether a partial denial was met.
-#[derive(Drop)]
+#[derive(Clone, Copy)]
 pub(crate) struct Seen {
     pub first: FirstMatch,
     pub partial: bool,
 }
 
 // What the call query answers: a state, or why it is refused.
-#[derive(Drop)]
+#[derive(Clone, Copy)]
 pub enum Answer {
     State(PermissionState),
     Refused(Refusal),

@@ -1,0 +1,31 @@
+-- `grant_all` meets its contract, argument by argument.
+use native.Mathlib.Omega.{arith}
+use Rattle.child.specs.Arguments.{responses_due}
+use Rattle.child.proofs.ArgumentLaws.{due-many, listed}
+use Rattle.child.proofs.GrantingLaws.{one-ready, sent-inherited, sent-refused, sent-one, sent-list}
+use Rattle.child.proofs.granting.grant_all.Goals as goal
+
+pub response_at-requires : goal.response_at-requires
+unfolding responses_due
+response_at-requires c = (c.requires.1.0.0, rw (due-many _ _ _ _ c.requires.1.0.1, c.in-Granted.is) (omega arith))
+
+pub grant_item-requires : goal.grant_item-requires
+grant_item-requires c = let pre = c.requires in (pre.0.0, pre.0.1, one-ready _ _ _ pre.1.1)
+
+pub grant_items-requires : goal.grant_items-requires
+grant_items-requires c =
+    let pre = c.requires in
+    (pre.0.0, pre.0.1, listed _ _ _ _ c.in-GrantedList.is pre.1.0.1 pre.1.0.0, pre.1.1)
+
+pub returns-in-Inherit : goal.returns-in-Inherit
+returns-in-Inherit c = λ known k. sent-inherited _ _ _ known c.in-Inherit.is c.done.ensures
+
+pub returns-in-NotGranted : goal.returns-in-NotGranted
+returns-in-NotGranted c = λ known k. sent-refused _ _ _ known c.in-NotGranted.is c.done-in-NotGranted.ensures
+
+pub returns-in-Granted : goal.returns-in-Granted
+unfolding responses_due
+returns-in-Granted c = λ known k. sent-one _ _ _ _ known c.in-Granted.is (rw (due-many _ _ _ _ c.requires.1.0.1, c.in-Granted.is) (omega arith)) k c.response_at.ensures c.grant_item.ensures
+
+pub returns-in-GrantedList : goal.returns-in-GrantedList
+returns-in-GrantedList c = λ known k. sent-list _ _ _ known c.in-GrantedList.is (c.grant_items.ensures known k)

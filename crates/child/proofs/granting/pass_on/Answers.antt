@@ -1,0 +1,21 @@
+-- `pass_on` meets its contract: 10 where the check fails, and else the grant is carried out.
+use mathlib.Core.Path.{sym, ◌∙◌}
+use borrow.Author.Tests.{not-true, not-false}
+use Rattle.table.specs.Carrying.{fits}
+use Rattle.table.proofs.Puts.{valid-of}
+use Rattle.deciding.proofs.FittingLaws.{grant-fits}
+use Rattle.child.proofs.MakingLaws.{grants-carried, passes-not, passes_on}
+use Rattle.child.proofs.granting.pass_on.Goals as goal
+
+pub returns-then-not-is_passed : goal.returns-then-not-is_passed
+returns-then-not-is_passed c = passes-not _ _ (sym c.is_passed.ensures ∙ not-true _ c.if-not-is_passed.true)
+
+pub carry_out-requires : goal.carry_out-requires
+unfolding fits
+carry_out-requires c =
+    (c.requires.0, rw (c.grant_action-action.ensures c.args.q.now) (grant-fits _ (valid-of _ c.requires.0) _ c.requires.1))
+
+pub returns : goal.returns
+returns c =
+    passes_on _ _ (sym c.is_passed.ensures ∙ not-false _ c.if-not-is_passed.false)
+    (grants-carried (rw (c.grant_action-action.ensures c.args.q.now) at c.carry_out.ensures))

@@ -1,0 +1,31 @@
+-- `read access` is written, and with a path ` to ` and the name behind it.
+use mathlib.Core.Path.{ap}
+use native.Mathlib.Omega.{arith}
+use lib.ListN.{length, take}
+use lib.Seq.{length-take-le}
+use Rattle.deciding.specs.Texts.{text_of}
+use Rattle.deciding.proofs.TextLaws.{text-named, length-shown}
+use Rattle.deciding.proofs.texts.write_text.Goals as goal
+
+pub append-end-requires : goal.append-end-requires
+append-end-requires c = omega (arith, c.requires.room)
+
+pub append-at-requires : goal.append-at-requires
+append-at-requires c = omega (arith, c.requires.room)
+
+pub display_name-requires : goal.display_name-requires
+display_name-requires c = c.requires.inside
+
+pub append_name-requires : goal.append_name-requires
+append_name-requires c =
+    let short = length-take-le c.args.n c.args.resolved.now c.requires.inside in
+    omega (arith, ap length c.display_name.ensures, c.requires.room, length-shown c.args.given.now (take c.args.n c.args.resolved.now) (c.requires.brief c.in-Path.is) (omega (arith, short, c.requires.short)))
+
+pub returns-in-NoPath : goal.returns-in-NoPath
+unfolding text_of
+returns-in-NoPath c = rw c.in-NoPath.is c.append-end.ensures
+
+pub returns-in-Path : goal.returns-in-Path
+returns-in-Path c =
+    rw c.in-Path.is
+    (text-named _ _ _ c.requires.room c.display_name.ensures c.append-end.ensures c.append-at.ensures c.append_name.ensures)

@@ -1,0 +1,19 @@
+-- `relating::rank` answers 0 at the path's end and at a slash, and else one more than the byte, which is below 256. Assumes nothing.
+use native.Mathlib.Omega.{arith}
+use Rattle.paths.proofs.RelatingLaws.{rank-end, rank-slash, rank-byte}
+use Rattle.paths.proofs.relating.rank.Goals as goal
+
+pub returns-then-p-i : goal.returns-then-p-i
+returns-then-p-i c = rank-end _ _ c.if-p-i.true
+
+pub returns-then-b-eq47 : goal.returns-then-b-eq47
+returns-then-b-eq47 c = rank-slash _ _ c.if-p-i.false (omega arith)
+
+pub overflow_cast-result : goal.overflow_cast-result
+overflow_cast-result c = omega (arith, c.shared_slice_known-1.given c.args.i)
+
+pub overflow_add-result : goal.overflow_add-result
+overflow_add-result c = omega (arith, c.shared_slice_known-1.given c.args.i)
+
+pub returns : goal.returns
+returns c = rank-byte _ _ c.if-p-i.false c.if-b-eq47.false

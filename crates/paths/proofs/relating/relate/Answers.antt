@@ -1,0 +1,72 @@
+use Prim.Native.Nat.{◌-◌}
+use mathlib.Core.Logic.{⊎_elim}
+use native.Mathlib.Omega.{arith}
+use Rattle.paths.proofs.RelatingLaws.{answered, between_start, between-begins, both_end, first_ends, second-ends, Shared, inside-start, inside-last, inside-byte, inside-slash, inside-differs, inside-less, inside-greater}
+use Rattle.paths.proofs.relating.relate.Goals as goal
+
+pub components-init : goal.components-init
+components-init c = between_start _ _ _ (omega arith)
+
+pub next_component-i-requires :
+    goal.next_component-i-requires
+next_component-i-requires c = c.components.invariant.left
+
+pub next_component-j-requires :
+    goal.next_component-j-requires
+next_component-j-requires c = c.components.invariant.right
+
+pub returns-then-j-q : goal.returns-then-j-q
+returns-then-j-q c =
+    answered (both_end c.components.invariant c.next_component-i.ensures c.next_component-j.ensures c.if-i-p.true c.if-j-q.true) (omega arith)
+
+pub returns-then-i-p : goal.returns-then-i-p
+returns-then-i-p c =
+    answered (first_ends c.components.invariant c.next_component-i.ensures c.next_component-j.ensures c.if-i-p.true c.if-j-q.false) (omega arith)
+
+pub returns-then-j-q-2 : goal.returns-then-j-q-2
+returns-then-j-q-2 c =
+    answered (second-ends c.components.invariant c.next_component-i.ensures c.next_component-j.ensures c.if-i-p.false c.if-j-q-2.true) (omega arith)
+
+pub loop-i-init : goal.loop-i-init
+loop-i-init c =
+    let b = c.next_component-i.ensures in
+    let d = c.next_component-j.ensures in
+    inside-start (between-begins c.components.invariant b d) (b.begins (omega arith)) (d.begins (omega arith)) c.first_end-end.ensures
+
+pub loop-i-preserved : goal.loop-i-preserved
+loop-i-preserved c =
+    inside-byte c.loop-i.invariant (omega arith) (omega arith) (omega arith) (λ e. omega arith) (omega arith)
+
+-- both paths have the component whole: both end with it, or a slash stands behind it in both
+shared :
+    (c : goal.Joined-i-end)
+    → let entry = c.args in
+    Shared entry.p.now entry.q.now c.components.common c.next_component-i.result c.loop-i.i c.loop-i.j
+shared c =
+    let s = c.loop-i.invariant in
+    ⊎_elim (λ w. inside-last s w.1.ensures w.2.ensures (omega arith) (omega (arith, w.3.left)))
+    (λ w. inside-slash s (omega (arith, w.0.left)) (omega (arith, w.0.left)) (omega (arith, w.3.left)) (omega (arith, w.5.taken)))
+    c.if-i-end.branch
+
+pub overflow_add-common : goal.overflow_add-common
+overflow_add-common c = let s = shared c in omega (arith, s.next.few, s.next.left)
+
+pub components-smaller : goal.components-smaller
+components-smaller c =
+    let s = shared c in
+    omega (arith, s.passed, s.next.left, c.next_component-i.ensures.behind)
+
+pub components-preserved : goal.components-preserved
+components-preserved c = (shared c).next
+
+pub returns-then-rank-2 : goal.returns-then-rank-2
+returns-then-rank-2 c =
+    answered (inside-less c.loop-i.invariant c.rank-2.ensures c.rank-3.ensures (omega arith)) (omega arith)
+
+pub returns-else-rank-2 : goal.returns-else-rank-2
+returns-else-rank-2 c =
+    let s = c.loop-i.invariant in
+    answered
+    (inside-greater s c.rank-2.ensures c.rank-3.ensures
+    (⊎_elim (λ w. omega (arith, w.1.ensures, w.2.ensures)) (λ w. omega (arith, inside-differs s (omega arith) (omega arith) w.3.taken)) c.if-i-end.branch))
+    (omega arith)

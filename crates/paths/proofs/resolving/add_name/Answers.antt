@@ -1,0 +1,14 @@
+-- A slash is stored, and the name is copied behind it. Assumes nothing.
+use native.Mathlib.Omega.{arith}
+use lib.ListN.{length-set}
+use Rattle.paths.proofs.Entering.{name-added}
+use Rattle.paths.proofs.resolving.add_name.Goals as goal
+
+pub copy_in-requires : goal.copy_in-requires
+copy_in-requires c = simp length-set (omega arith)
+
+pub shape_of-work : goal.shape_of-work
+shape_of-work c = simp length-set at c.copy_in.auto.0
+
+pub returns : goal.returns
+returns c = name-added _ _ _ _ c.requires c.copy_in.ensures

@@ -1,0 +1,10 @@
+-- The pairs tested so far are plain; the last eight may have been tested already. Assumes nothing.
+use Prim.Native.Nat.{◌-◌, ◌≤◌}
+use Rattle.paths.specs.Scanning.{PlainBelow}
+use Rattle.paths.proofs.resolving.is_plain.Given as goal
+
+abbrev pub invariant-loop-k : goal.invariant-loop-k
+invariant-loop-k l = (l.k ≤ l.last) × PlainBelow l.p l.k
+
+abbrev pub decreases-loop-k : goal.decreases-loop-k
+decreases-loop-k l = l.last - l.k

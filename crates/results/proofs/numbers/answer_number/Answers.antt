@@ -1,0 +1,14 @@
+-- `answer_number` meets its contract.
+use mathlib.Core.Path.{sym, ap, ◌∙◌}
+use native.Mathlib.Omega.{arith}
+use mir.Syntax.{w32}
+use mir.Facts.{to_z_pos}
+use Rattle.results.specs.Numbers.{answer_number}
+use Rattle.table.proofs.ComparisonLaws.{read_back}
+use Rattle.results.proofs.numbers.answer_number.Goals as goal
+
+pub returns-in-State : goal.returns-in-State
+returns-in-State c = rw (c.in-State.is, ← c.state_number.ensures) (to_z_pos w32 (omega arith))
+
+pub returns-in-Refused : goal.returns-in-Refused
+returns-in-Refused c = read_back w32 _ c.refused.type-inv ∙ c.refused.ensures ∙ sym (ap answer_number c.in-Refused.is)

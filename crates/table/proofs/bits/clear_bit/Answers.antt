@@ -1,0 +1,13 @@
+-- `clear_bit` meets its contract.
+use mathlib.Core.Path.{sym, ◌∙◌}
+use Rattle.table.proofs.BitLaws.{bit-within, bit-cleared, bit-clear}
+use Rattle.table.proofs.bits.clear_bit.Goals as goal
+
+pub overflow_sub-result : goal.overflow_sub-result
+overflow_sub-result c = bit-within _ _ (sym c.has.ensures ∙ c.if-has.true)
+
+pub returns-then-has : goal.returns-then-has
+returns-then-has c = bit-cleared _ _ (sym c.has.ensures ∙ c.if-has.true)
+
+pub returns : goal.returns
+returns c = bit-clear _ _ (sym c.has.ensures ∙ c.if-has.false)

@@ -1,0 +1,15 @@
+use borrow.Author.Tests.{lt-ltb, le-ltb, eq-eqb, ne_eqb}
+use Rattle.paths.specs.Relations.{number_order}
+use Rattle.table.proofs.comparing.number_order.Goals as goal
+
+pub returns-then-a-b : goal.returns-then-a-b
+unfolding number_order
+returns-then-a-b c = rw (lt-ltb _ _ c.if-a-b.true)
+
+pub returns-then-a-b-2 : goal.returns-then-a-b-2
+unfolding number_order
+returns-then-a-b-2 c = rw (le-ltb _ _ c.if-a-b.false, eq-eqb _ _ c.if-a-b-2.true)
+
+pub returns : goal.returns
+unfolding number_order
+returns c = rw (le-ltb _ _ c.if-a-b.false, ne_eqb _ _ c.if-a-b-2.false)

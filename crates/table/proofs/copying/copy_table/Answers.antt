@@ -1,0 +1,11 @@
+-- `copy_table` meets its contract: the bytes that it copies are the table.
+use Rattle.table.proofs.TableCopies.{copy-fits, copy-law}
+use Rattle.table.proofs.copying.copy_table.Goals as goal
+
+pub copy_in-requires : goal.copy_in-requires
+copy_in-requires c =
+    copy-fits _ (record { each = λ i. (c.shared_slice_known-1.given i).fits }) c.requires.0 c.used-end.ensures.0 c.requires.1
+
+pub returns : goal.returns
+returns c =
+    copy-law _ (record { each = λ i. (c.shared_slice_known-1.given i).fits }) c.requires.0 c.used-end.ensures.0 _ c.copy_in.ensures

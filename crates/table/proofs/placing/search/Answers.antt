@@ -1,0 +1,32 @@
+use native.Mathlib.Omega.{arith}
+use Rattle.table.proofs.Within.{held}
+use Rattle.table.proofs.ProbeLaws.{probing-start, probing-done, probing-stays, probing-moves, half-within, half-inside}
+use Rattle.table.proofs.placing.search.Goals as goal
+
+pub word_at-size-requires : goal.word_at-size-requires
+word_at-size-requires c = omega (arith, (held _ c.requires).long)
+
+pub loop-size-init : goal.loop-size-init
+loop-size-init c = probing-start _ _ c.word_at-size.ensures.0
+
+pub hop-middle-requires : goal.hop-middle-requires
+hop-middle-requires c =
+    half-within c.loop-size.invariant (omega arith) c.requires
+
+pub compare_at-requires : goal.compare_at-requires
+compare_at-requires c =
+    half-inside c.loop-size.invariant (omega arith) c.hop-middle.ensures c.requires
+
+pub overflow_add-base : goal.overflow_add-base
+overflow_add-base c = omega (arith, (held _ c.requires).few)
+
+pub loop-size-preserved-then-compare_at-ne1 : goal.loop-size-preserved-then-compare_at-ne1
+loop-size-preserved-then-compare_at-ne1 c =
+    probing-moves c.loop-size.invariant (omega arith) c.hop-middle.ensures c.compare_at.ensures c.if-compare_at-ne1.true
+
+pub loop-size-preserved : goal.loop-size-preserved
+loop-size-preserved c =
+    probing-stays c.loop-size.invariant (omega arith) c.hop-middle.ensures c.compare_at.ensures c.if-compare_at-ne1.false
+
+pub returns : goal.returns
+returns c = probing-done c.loop-size.invariant (omega arith)

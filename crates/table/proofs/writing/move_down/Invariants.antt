@@ -1,0 +1,12 @@
+-- `move_down` meets its contract. The loop's invariant: the first `i` bytes stand at their new offset.
+use Prim.Native.Nat.{◌-◌, ◌≤◌}
+use mathlib.Core.Path.{◌≡◌}
+use lib.ListN.{length, drop}
+use lib.Seq.{paste}
+use Rattle.table.proofs.writing.move_down.Given as goal
+
+abbrev pub invariant-loop-i : goal.invariant-loop-i
+invariant-loop-i l = (l.i ≤ l.n) × (l.mem ≡ paste l.initial.mem l.to (drop l.from l.initial.mem) l.i) × (length l.mem ≡ length l.initial.mem)
+
+abbrev pub decreases-loop-i : goal.decreases-loop-i
+decreases-loop-i l = l.n - l.i

@@ -1,0 +1,56 @@
+use mathlib.Core.Path.{refl, sym, ◌∙◌}
+use mathlib.Core.Logic.{⊎_elim}
+use Rattle.table.proofs.ReadingLaws.{first-in, fewer-left, next-in}
+use Rattle.walk.proofs.SeeingLaws.{meets_at, path-resolved, sees-passed, walking_start, walking_on, walking-end, walking-settled}
+use Rattle.walk.proofs.walking.walk.Goals as goal
+
+pub loop-mode-init : goal.loop-mode-init
+loop-mode-init c = rw c.first-cursor.ensures (first-in _ c.requires, walking_start _ _ _ refl refl)
+
+pub path-requires : goal.path-requires
+path-requires c = record { rest = c.loop-mode.invariant.0; more = sym c.is_at_entry.ensures ∙ c.loop-mode-test.true }
+
+pub meet-met-requires : goal.meet-met-requires
+meet-met-requires c = (
+  path-resolved
+      (record { rest = c.loop-mode.invariant.0; more = sym c.is_at_entry.ensures ∙ c.loop-mode-test.true })
+      c.path.ensures,
+  c.is_resolved-resolved.ensures,
+)
+
+pub kind-requires : goal.kind-requires
+kind-requires c =
+    record { rest = c.loop-mode.invariant.0; more = sym c.is_at_entry.ensures ∙ c.loop-mode-test.true }
+
+pub returns-then-is_settled : goal.returns-then-is_settled
+returns-then-is_settled c =
+    let inv = c.loop-mode.invariant in
+    let more = sym c.is_at_entry.ensures ∙ c.loop-mode-test.true in
+    let M = meets_at c.meet-met.ensures c.path.ensures in
+    walking-settled _ (sym c.is_settled.ensures ∙ c.if-is_settled.true)
+    (walking_on more inv.1 (c.with_entry-seen.ensures.more _ _ _ c.kind.ensures M inv.1.sees))
+
+pub advance-cursor-requires : goal.advance-cursor-requires
+advance-cursor-requires c =
+    record { rest = c.loop-mode.invariant.0; more = sym c.is_at_entry.ensures ∙ c.loop-mode-test.true }
+
+pub loop-mode-smaller : goal.loop-mode-smaller
+loop-mode-smaller c =
+    rw c.advance-cursor.ensures (fewer-left _ _ (sym c.is_at_entry.ensures ∙ c.loop-mode-test.true))
+
+pub loop-mode-preserved : goal.loop-mode-preserved
+loop-mode-preserved c =
+    let inv = c.loop-mode.invariant in
+    let more = sym c.is_at_entry.ensures ∙ c.loop-mode-test.true in
+    let M = meets_at c.meet-met.ensures c.path.ensures in
+    rw c.advance-cursor.ensures (
+      next-in (record { rest = inv.0; more = more }),
+      walking_on more inv.1
+          (⊎_elim
+          (λ x. rw x.5 (x.2.ensures.more _ _ _ x.1.ensures M inv.1.sees))
+          (λ x. rw x.1 (sees-passed _ _ _ M x.0.left inv.1.sees))
+          c.if-met.branch),
+    )
+
+pub returns : goal.returns
+returns c = walking-end _ (sym c.is_at_entry.ensures ∙ c.loop-mode-test.false) c.loop-mode.invariant.1

@@ -9,14 +9,14 @@ slice_bounds-left-end c =
     resolves-room c.resolve.ensures c.in-Resolved.is
 
 pub slice_bounds-relate-end : goal.slice_bounds-relate-end
-slice_bounds-relate-end c = sym (length-take-le _ _ (slice_bounds-left-end c))
+slice_bounds-relate-end c = sym (length-take-le _ _ (resolves-room c.resolve.ensures c.in-Resolved.is))
 
 pub slice_bounds-right-end : goal.slice_bounds-right-end
 slice_bounds-right-end c =
     resolves-room c.resolve-in-Resolved.ensures c.in-Resolved-resolve.is
 
 pub slice_bounds-relate-end-in-Resolved-resolve : goal.slice_bounds-relate-end-in-Resolved-resolve
-slice_bounds-relate-end-in-Resolved-resolve c = sym (length-take-le _ _ (slice_bounds-right-end c))
+slice_bounds-relate-end-in-Resolved-resolve c = sym (length-take-le _ _ (resolves-room c.resolve-in-Resolved.ensures c.in-Resolved-resolve.is))
 
 pub returns-in-Refused : goal.returns-in-Refused
 returns-in-Refused c = compare-first _ _ _ (resolves-refused c.resolve.ensures c.in-Refused.is)

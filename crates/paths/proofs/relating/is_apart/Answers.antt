@@ -1,7 +1,6 @@
 use mathlib.Core.Path.{sym, ◌∙◌}
 use mathlib.Core.Bool.{true≢false, false≢true}
 use native.Mathlib.Omega.{arith}
-use borrow.Author.Tests.{not-true, not-false}
 use Rattle.paths.proofs.ApartLaws.{Lesser, lesser, same_none, same-eight-more, same_rest, eight-same}
 use Rattle.paths.proofs.relating.is_apart.Goals as goal
 
@@ -17,7 +16,7 @@ pub returns-then-not-same_eight : goal.returns-then-not-same_eight
 returns-then-not-same_eight c =
     let inv = c.loop-n.invariant in
     record {
-      apart = λ e s. true≢false (sym (eight-same _ _ _ (omega arith) (omega arith) s) ∙ sym c.same_eight.ensures ∙ not-true _ c.if-not-same_eight.true);
+      apart = λ e s. true≢false (sym (eight-same _ _ _ (omega arith) (omega arith) s) ∙ sym c.same_eight.ensures ∙ c.if-not-same_eight.true);
       alike = λ e. absurd (true≢false e);
     }
 
@@ -27,7 +26,7 @@ loop-n-smaller c = omega arith
 pub loop-n-preserved : goal.loop-n-preserved
 loop-n-preserved c =
     let inv = c.loop-n.invariant in
-    let same = sym c.same_eight.ensures ∙ not-false _ c.if-not-same_eight.false in
+    let same = sym c.same_eight.ensures ∙ c.if-not-same_eight.false in
     (omega arith, omega arith, same-eight-more _ _ _ (omega arith) same inv.2)
 
 pub returns : goal.returns

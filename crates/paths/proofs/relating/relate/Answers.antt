@@ -1,8 +1,7 @@
-use Prim.Native.Nat.{◌-◌}
-use mathlib.Core.Logic.{⊎_elim}
 use native.Mathlib.Omega.{arith}
 use Rattle.paths.proofs.RelatingLaws.{answered, between_start, between-begins, both_end, first_ends, second-ends, Shared, inside-start, inside-last, inside-byte, inside-slash, inside-differs, inside-less, inside-greater}
 use Rattle.paths.proofs.relating.relate.Goals as goal
+use Rattle.paths.proofs.relating.relate.Goals.{then-i-end+else-rank, else-i-end+else-p-i+then-p-i-eq47, then-i-end+then-rank, else-i-end+then-p-i}
 
 pub components-init : goal.components-init
 components-init c = between_start _ _ _ (omega arith)
@@ -44,9 +43,10 @@ shared :
     Shared entry.p.now entry.q.now c.components.common c.next_component-i.result c.loop-i.i c.loop-i.j
 shared c =
     let s = c.loop-i.invariant in
-    ⊎_elim (λ w. inside-last s w.1.ensures w.2.ensures (omega arith) (omega (arith, w.3.left)))
-    (λ w. inside-slash s (omega (arith, w.0.left)) (omega (arith, w.0.left)) (omega (arith, w.3.left)) (omega (arith, w.5.taken)))
-    c.if-i-end.branch
+    elim c.if-i-end.branch [
+      | then-i-end+else-rank w ↦ inside-last s w.rank.ensures w.rank-then-i-end.ensures (omega arith) (omega arith)
+      | else-i-end+else-p-i+then-p-i-eq47 w ↦ inside-slash s (omega arith) (omega arith) (omega arith) (omega arith)
+    ]
 
 pub overflow_add-common : goal.overflow_add-common
 overflow_add-common c = let s = shared c in omega (arith, s.next.few, s.next.left)
@@ -68,5 +68,8 @@ returns-else-rank-2 c =
     let s = c.loop-i.invariant in
     answered
     (inside-greater s c.rank-2.ensures c.rank-3.ensures
-    (⊎_elim (λ w. omega (arith, w.1.ensures, w.2.ensures)) (λ w. omega (arith, inside-differs s (omega arith) (omega arith) w.3.taken)) c.if-i-end.branch))
+    (elim c.if-i-end.branch [
+      | then-i-end+then-rank w ↦ omega arith
+      | else-i-end+then-p-i w ↦ omega (arith, inside-differs s (omega arith) (omega arith) w.if-p-i.true)
+    ]))
     (omega arith)

@@ -7,8 +7,5 @@ use Rattle.paths.proofs.resolving.add_name.Goals as goal
 pub copy_in-requires : goal.copy_in-requires
 copy_in-requires c = simp length-set (omega arith)
 
-pub shape_of-work : goal.shape_of-work
-shape_of-work c = simp length-set at c.copy_in.auto.0
-
 pub returns : goal.returns
 returns c = name-added _ _ _ _ c.requires c.copy_in.ensures

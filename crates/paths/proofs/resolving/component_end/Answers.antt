@@ -1,4 +1,3 @@
-use Prim.Native.Nat.{◌-◌}
 use Rattle.paths.proofs.Scanning.{scanned-start, scanned-more, scanned-slash, scanned-end}
 use Rattle.paths.proofs.resolving.component_end.Goals as goal
 

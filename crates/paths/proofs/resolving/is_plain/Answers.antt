@@ -1,8 +1,6 @@
-use Prim.Native.Nat.{◌-◌}
 use mathlib.Core.Path.{sym, ◌∙◌}
 use mathlib.Core.Bool.{false≢true}
 use native.Mathlib.Omega.{arith}
-use borrow.Author.Tests.{not-false}
 use Rattle.paths.proofs.Scanning.{plain-none, plain-eight, plain-resolved}
 use Rattle.paths.proofs.resolving.is_plain.Goals as goal
 
@@ -21,7 +19,7 @@ returns-then-not-plain_eight c = λ e. absurd (false≢true e)
 
 pub loop-k-preserved : goal.loop-k-preserved
 loop-k-preserved c =
-    let t = sym c.plain_eight.ensures ∙ not-false _ c.if-not-plain_eight.false in
+    let t = sym c.plain_eight.ensures ∙ c.if-not-plain_eight.false in
     (omega arith, plain-eight _ _ _ _ (omega arith) (omega arith) c.loop-k.invariant.1 t)
 
 pub returns : goal.returns

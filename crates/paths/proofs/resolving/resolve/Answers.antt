@@ -1,7 +1,6 @@
 -- The first cause that holds is answered, and else the resolved path handed over. Assumes nothing.
-use mathlib.Core.Path.{◌≡◌, sym, ◌∙◌}
-use mathlib.Core.Bool.{false}
-use Rattle.paths.specs.Resolving.{is_bad_directory}
+use mathlib.Core.Path.{sym, ◌∙◌}
+use Rattle.std.proofs.Common.{rules}
 use Rattle.paths.proofs.Answering.{resolves-empty, resolves-long, resolves-bad, resolves-path}
 use Rattle.paths.proofs.resolving.resolve.Goals as goal
 
@@ -15,12 +14,9 @@ pub returns-then-is_bad_directory : goal.returns-then-is_bad_directory
 returns-then-is_bad_directory c =
     resolves-bad _ _ _ c.if-path-eq0.false c.if-path-gt-MAX_PATH.false (sym c.is_bad_directory.ensures ∙ c.if-is_bad_directory.true)
 
-good : (c : goal.Else-is_bad_directory) → is_bad_directory c.args.path.now c.args.cwd.now ≡ false
-good c = sym c.is_bad_directory.ensures ∙ c.if-is_bad_directory.false
-
 pub enter_joined-len-requires : goal.enter_joined-len-requires
-enter_joined-len-requires c = (search rules, search rules, good c)
+enter_joined-len-requires c = (search rules, search rules, sym c.is_bad_directory.ensures ∙ c.if-is_bad_directory.false)
 
 pub returns : goal.returns
 returns c =
-    resolves-path _ _ _ c.if-path-eq0.false c.if-path-gt-MAX_PATH.false (good c) c.enter_joined-len.ensures c.hand_over.ensures
+    resolves-path _ _ _ c.if-path-eq0.false c.if-path-gt-MAX_PATH.false (sym c.is_bad_directory.ensures ∙ c.if-is_bad_directory.false) c.enter_joined-len.ensures c.hand_over.ensures

@@ -87,13 +87,13 @@ put-bytes {m} t B v A =
     (encode-bytes A K.bytes)))))
     (bytes_drop (length (encode t)) m B)
 
-acts-bytes : {m : List ℕ} {run n : ℕ} {t : Table} {acts : List Act} → Bytes m → holds m ≡ true → table_of m ≡ t → Recorded run n t acts → Bytes (do_acts m acts)
+acts-bytes : {run : ℕ} {m : List ℕ} {n : ℕ} {t : Table} {acts : List Act} → Bytes m → holds m ≡ true → table_of m ≡ t → Recorded run n t acts → Bytes (do_acts m acts)
 unfolding do_acts do_act apply_acts
 acts-bytes B h e no-act = B
 acts-bytes {m} B h e (act-more {act = act} R A) =
     let one = acted-one m act h R.readable.fits (rw e R.room) in
     let left = table-acted (table_of m) act (valid-of m h) R.readable.fits (rw e R.room) in
-    acts-bytes (put-bytes _ B left (paths-acted (table_of m) act (entries-bytes m B) R.readable.bytes)) one.holding
+    acts-bytes {m = put (apply_act (table_of m) act) m} (put-bytes _ B left (paths-acted (table_of m) act (entries-bytes m B) R.readable.bytes)) one.holding
     (one.table ∙ ap (λ (t : Table). apply_act t act) e)
     A
 

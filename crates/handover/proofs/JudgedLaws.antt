@@ -213,7 +213,7 @@ module _ {came : List Message} {j : Judged} (S : Starts came j) where
 starts-all : {came : List Message} {j : Judged} (more : List Message) → Starts came j → Starts (came ++ more) (judged_from j more)
 unfolding judged_from
 starts-all {came} [] S = rw (append-nil came) S
-starts-all {came} (m ∷ more) S = rw (← append_assoc came (m ∷ []) more) (starts-all more (starts_more S m))
+starts-all {came} (m ∷ more) S = rw (← append_assoc came (m ∷ []) more) (starts-all {came = came ++ m ∷ []} more (starts_more S m))
 
 starts : (came : List Message) → Starts came (judged came)
 unfolding changes_of

@@ -1,6 +1,6 @@
 -- What holds of the main after any list of its calls, run after run.
 use Prim.Native.Nat.{ℕ, ◌+◌, ◌≤◌}
-use mathlib.Core.Path.{◌≡◌, refl, sym, ap, ◌∙◌}
+use mathlib.Core.Path.{◌≡◌, refl, sym, ap, ◌∙◌, subst}
 use mathlib.Core.List.Memᴰ
 use mathlib.Core.List.{
   List,
@@ -140,7 +140,7 @@ own-run H no-act = record { told = refl; recorded = no-act }
 own-run {run = run} {n = n} {t = t} {acts = acts} H (act-more R A) =
     let e = H.own R.readable.of_run in
     let all : Recorded run n t acts = act-more R A in
-    record { told = rw e; recorded = rw e at all }
+    record { told = ap (λ (r : ℕ). numbered r n acts) e; recorded = subst (λ (r : ℕ). Recorded r n t acts) e all }
 
 own-advances : {q run : ℕ} {a a' : Main} {acts : List Act} {wrote : List ℕ} → Handed q run → Advances run a acts wrote a' → Advances q a acts wrote a'
 own-advances H W =

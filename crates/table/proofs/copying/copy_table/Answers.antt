@@ -4,8 +4,8 @@ use Rattle.table.proofs.copying.copy_table.Goals as goal
 
 pub copy_in-requires : goal.copy_in-requires
 copy_in-requires c =
-    copy-fits _ (record { each = λ i. (c.shared_slice_known-1.given i).fits }) c.requires.0 c.used-end.ensures.0 c.requires.1
+    copy-fits _ (record { each = λ i. c.type_inv.from i }) c.requires.0 c.used-end.ensures.0 c.requires.1
 
 pub returns : goal.returns
 returns c =
-    copy-law _ (record { each = λ i. (c.shared_slice_known-1.given i).fits }) c.requires.0 c.used-end.ensures.0 _ c.copy_in.ensures
+    copy-law _ (record { each = λ i. c.type_inv.from i }) c.requires.0 c.used-end.ensures.0 _ c.copy_in.ensures

@@ -9,4 +9,4 @@ write_switches-requires c = omega (arith, (held _ c.requires.0).long)
 
 pub returns : goal.returns
 returns c =
-    switch-law _ _ _ (record { each = λ i. (c.slice_known-1.given i).fits }) c.requires.0 c.write_switches.ensures
+    switch-law _ _ _ (record { each = λ i. c.type_inv.mem i }) c.requires.0 c.write_switches.ensures

@@ -3,6 +3,7 @@ use Prim.Native.Nat.{ℕ}
 use mathlib.Core.Path.{◌≡◌, ap, ◌∙◌}
 use mathlib.Core.List.{List}
 use native.Mathlib.Omega.{arith}
+use Rattle.std.proofs.Common.{rules}
 use lib.ListN.{length, length-set}
 use Rattle.table.specs.Memory.{table_head, word_at, offset_at}
 use Rattle.table.proofs.Within.{held, marks-of}
@@ -88,7 +89,7 @@ bounds-mem-3-2 c =
     omega arith
 
 pub shape_of-mem : goal.shape_of-mem
-shape_of-mem c = simp length-set (c.set_count.kept.mem ∙ c.write_entry.kept.mem ∙ c.move_up.kept.mem)
+shape_of-mem c = simp length-set (c.set_count.auto.mem ∙ c.write_entry.auto.mem ∙ c.move_up.auto.mem)
 
 pub returns : goal.returns
 returns c =
@@ -97,7 +98,7 @@ returns c =
     c.entry_offset-end.ensures ∙ ap (λ (k : ℕ). offset_at c.args.mem.now k table_head) c.word_at-count.ensures.0
     in
     let R = room _ q.mem_value c.args.place (length c.args.path.now) q.place_bound.0 q.place_bound.1 q.path_bound in
-    insert-steps c.args.mem.now (record { each = λ i. c.type_inv.mem i }) q.mem_value
+    insert-steps c.args.mem.now (record { each = λ i. search rules }) q.mem_value
     c.args.place q.place_bound.0 (record { kind = c.args.kind; path = c.args.path.now }) _ _ _ _ _ _ _ R
     c.entry_offset-start.ensures e c.word_at-count.ensures.0 c.marked-marks.ensures
     c.move_up.ensures c.write_entry.ensures c.set_count.ensures

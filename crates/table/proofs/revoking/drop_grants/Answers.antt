@@ -1,6 +1,7 @@
 use Prim.Native.Nat.{ℕ, ◌+◌, ◌≤◌}
 use mathlib.Core.Path.{ap}
 use native.Mathlib.Omega.{arith}
+use Rattle.std.proofs.Common.{rules}
 use lib.ListN.{length}
 use Rattle.table.specs.Memory.{entry_head, next_at}
 use Rattle.table.proofs.Within.{held}
@@ -43,8 +44,8 @@ overflow_add-from-else-is_dropped c = omega (arith, next-inside c.loop-left-test
 pub loop-left-preserved : goal.loop-left-preserved
 loop-left-preserved c =
     kept_move c.loop-left-test.true c.loop-left.invariant _ (ap (λ (n : ℕ). n + entry_head) c.word_at-size.ensures.0)
-    (record { each = λ k. c.type_inv.mem k }) _ _ c.is_dropped.ensures c.if-is_dropped.false
-    c.move_down.ensures c.move_down.kept.mem
+    (record { each = λ k. search rules }) _ _ c.is_dropped.ensures c.if-is_dropped.false
+    c.move_down.ensures c.move_down.auto.mem
 
 pub set_count-requires : goal.set_count-requires
 set_count-requires c =
@@ -52,5 +53,5 @@ set_count-requires c =
 
 pub returns : goal.returns
 returns c =
-    kept-end _ _ _ _ _ _ _ _ (record { each = λ k. c.type_inv.mem k }) c.requires c.loop-left-test.false c.loop-left.invariant
+    kept-end _ c.args.mem.now _ _ _ _ _ _ (record { each = λ k. search rules }) c.requires c.loop-left-test.false c.loop-left.invariant
     c.set_count.ensures

@@ -12,7 +12,7 @@ pub bounds-mem-at-3 : goal.bounds-mem-at-3
 bounds-mem-at-3 c = simp length-set (omega arith)
 
 pub shape_of-mem : goal.shape_of-mem
-shape_of-mem c = c.copy_in.kept.mem ∙ simp length-set
+shape_of-mem c = c.copy_in.auto.mem ∙ simp length-set
 
 pub returns : goal.returns
 returns c =

@@ -1,6 +1,4 @@
-use mathlib.Core.Path.{◌≡◌, sym, ◌∙◌}
-use mathlib.Core.Bool.{true}
-use Rattle.table.specs.Scanning.{entry_fits}
+use mathlib.Core.Path.{sym, ◌∙◌}
 use native.Mathlib.Omega.{arith}
 use Rattle.table.proofs.ScanningLaws.{scans-start, scans-bad, scans-next, scans-end, fits-parts, mark_of}
 use Rattle.table.proofs.holding.entries_fit.Goals as goal

@@ -1,13 +1,12 @@
 -- `insert_at` meets its contract: what its calls ensure, step by step, is what the law of an insert asks.
 use Prim.Native.Nat.{ℕ}
 use mathlib.Core.Path.{◌≡◌, ap, ◌∙◌}
-use mathlib.Core.List.{List}
 use native.Mathlib.Omega.{arith}
 use Rattle.std.proofs.Common.{rules}
 use lib.ListN.{length, length-set}
 use Rattle.table.specs.Memory.{table_head, word_at, offset_at}
 use Rattle.table.proofs.Within.{held, marks-of}
-use Rattle.table.proofs.Inserts.{Room, room, insert-steps}
+use Rattle.table.proofs.Inserts.{room, insert-steps}
 use Rattle.table.proofs.inserting.insert_at.Goals as goal
 
 pub word_at-count-requires : goal.word_at-count-requires

@@ -1,13 +1,6 @@
 -- `insert_entry` meets its contract, by the place that is found and by whether there is room.
 use native.Mathlib.Omega.{arith}
-use mathlib.Core.Path.{◌≡◌, refl, sym, ◌∙◌}
-use mathlib.Core.List.{List}
-use mathlib.Core.Bool.{true}
-use Prim.Native.Nat.{ℕ}
-use Rattle.table.specs.Entries.{Entry}
-use Rattle.table.specs.declared.Place.TheVariants.{At}
-use Rattle.table.specs.Placing.{place}
-use Rattle.table.specs.Acts.{has_room}
+use mathlib.Core.Path.{refl, sym, ◌∙◌}
 use Rattle.table.specs.Memory.{table_of}
 use Rattle.table.proofs.Puts.{count_of, room-parts}
 use Rattle.table.proofs.ProbeLaws.{place_inside, inserts-found, inserts-full, inserts-added}

@@ -1,8 +1,6 @@
 -- `place` meets its contract: none in an empty list, and else by how the entry compares at which the search ends.
 use native.Mathlib.Omega.{arith}
-use Prim.Native.Nat.{◌<◌}
 use mathlib.Core.Path.{sym, ◌∙◌}
-use Rattle.table.specs.Memory.{word_at}
 use Rattle.table.proofs.Within.{held}
 use Rattle.table.proofs.ProbeLaws.{base-below, base-inside, place_none, placed-found, placed-before, placed-after}
 use Rattle.table.proofs.placing.place.Goals as goal

@@ -1,9 +1,5 @@
 use native.Mathlib.Omega.{arith}
-use Prim.Native.Nat.{◌≤◌}
 use mathlib.Core.Path.{refl, sym, ◌∙◌}
-use mathlib.Core.Bool.{true}
-use lib.ListN.{length}
-use Rattle.table.specs.Memory.{next_at}
 use Rattle.table.proofs.Within.{within-inside, within-next, offset_at-step, offset_at-none}
 use Rattle.table.proofs.reading.hop.Goals as goal
 

@@ -1,9 +1,8 @@
-use Prim.Native.Nat.{ℕ, ◌+◌, ◌≤◌}
+use Prim.Native.Nat.{ℕ, ◌+◌}
 use mathlib.Core.Path.{ap}
 use native.Mathlib.Omega.{arith}
 use Rattle.std.proofs.Common.{rules}
-use lib.ListN.{length}
-use Rattle.table.specs.Memory.{entry_head, next_at}
+use Rattle.table.specs.Memory.{entry_head}
 use Rattle.table.proofs.Within.{held}
 use Rattle.table.proofs.RevokeLaws.{kept-start, next-inside, kept-skip, kept_move, kept-end}
 use Rattle.table.proofs.revoking.drop_grants.Goals as goal

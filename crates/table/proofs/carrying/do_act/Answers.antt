@@ -5,10 +5,10 @@ use Rattle.table.proofs.CarryingLaws.{act-none, act-insert, act-switches, act-re
 use Rattle.table.proofs.carrying.do_act.Goals as goal
 
 pub insert_entry-requires : goal.insert_entry-requires
-insert_entry-requires c = (c.requires.0, insert-fits c.requires.1 (act-insert _ c.in-Insert.is))
+insert_entry-requires c = record { mem_value = c.requires.mem_value; path_value = insert-fits c.requires.q_value (act-insert _ c.in-Insert.is) }
 
 pub set_switches_byte-requires : goal.set_switches_byte-requires
-set_switches_byte-requires c = (c.requires.0, switches-fit c.requires.1 (act-switches _ c.in-SetSwitches.is))
+set_switches_byte-requires c = (c.requires.mem_value, switches-fit c.requires.q_value (act-switches _ c.in-SetSwitches.is))
 
 pub returns-in-Nothing : goal.returns-in-Nothing
 returns-in-Nothing c = does-nothing (act-none _ c.in-Nothing.is)

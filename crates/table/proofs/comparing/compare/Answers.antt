@@ -7,12 +7,12 @@ use Rattle.table.proofs.comparing.compare.Goals as goal
 
 pub returns-then-is_granted-2 : goal.returns-then-is_granted-2
 returns-then-is_granted-2 c =
-    read_back w8 _ c.compare_alike.type-inv ∙ c.compare_alike.ensures
+    read_back w8 _ c.compare_alike.type_inv ∙ c.compare_alike.ensures
     ∙ sym (compare-by _ _ (sym c.is_granted.ensures ∙ c.if-is_granted.true) (sym c.is_granted-then-is_granted.ensures ∙ c.if-is_granted-2.true))
 
 pub returns-then-is_granted : goal.returns-then-is_granted
 returns-then-is_granted c =
-    read_back w8 _ c.compare_granted.type-inv ∙ c.compare_granted.ensures
+    read_back w8 _ c.compare_granted.type_inv ∙ c.compare_granted.ensures
     ∙ sym (compare-by _ _ (sym c.is_granted.ensures ∙ c.if-is_granted.true) (sym c.is_granted-then-is_granted.ensures ∙ c.if-is_granted-2.false))
 
 pub overflow_sub-result : goal.overflow_sub-result
@@ -25,5 +25,5 @@ returns-then-is_granted-3 c =
 
 pub returns : goal.returns
 returns c =
-    read_back w8 _ c.compare_alike-2.type-inv ∙ c.compare_alike-2.ensures
+    read_back w8 _ c.compare_alike-2.type_inv ∙ c.compare_alike-2.ensures
     ∙ sym (compare-by _ _ (sym c.is_granted.ensures ∙ c.if-is_granted.false) (sym c.is_granted-2.ensures ∙ c.if-is_granted-3.false))

@@ -8,7 +8,7 @@ use Rattle.table.proofs.comparing.compare_alike.Goals as goal
 
 pub returns-in-Equal : goal.returns-in-Equal
 returns-in-Equal c =
-    read_back w8 _ c.number_order.type-inv ∙ c.number_order.ensures ∙ ap₂ number_order c.kind_precedence.ensures c.kind_precedence-in-Equal.ensures
+    read_back w8 _ c.number_order.type_inv ∙ c.number_order.ensures ∙ ap₂ number_order c.kind_precedence.ensures c.kind_precedence-in-Equal.ensures
     ∙ sym (alike-said _ _ (compared-said c.relate-compared.ensures c.in-Equal.is))
 
 pub returns-in-Prefix : goal.returns-in-Prefix

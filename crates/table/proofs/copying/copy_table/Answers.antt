@@ -1,11 +1,16 @@
 -- `copy_table` meets its contract: the bytes that it copies are the table.
+use native.Mathlib.Omega.{arith}
+use Rattle.table.proofs.Puts.{long_of}
 use Rattle.table.proofs.TableCopies.{copy-fits, copy-law}
 use Rattle.table.proofs.copying.copy_table.Goals as goal
 
+pub slice_bounds-copy_in-end : goal.slice_bounds-copy_in-end
+slice_bounds-copy_in-end c = omega (arith, long_of _ c.requires.0)
+
 pub copy_in-requires : goal.copy_in-requires
 copy_in-requires c =
-    copy-fits _ (record { each = λ i. (c.shared_slice_known-1.given i).fits }) c.requires.0 c.used-end.ensures.0 c.requires.1
+    copy-fits _ (record { each = λ i. (c.type_inv.from i).fits }) c.requires.0 c.used-end.ensures.0 c.requires.1
 
 pub returns : goal.returns
 returns c =
-    copy-law _ (record { each = λ i. (c.shared_slice_known-1.given i).fits }) c.requires.0 c.used-end.ensures.0 _ c.copy_in.ensures
+    copy-law _ (record { each = λ i. (c.type_inv.from i).fits }) c.requires.0 c.used-end.ensures.0 _ c.copy_in.ensures

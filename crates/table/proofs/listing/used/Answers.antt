@@ -9,4 +9,4 @@ word_at-requires c = omega (arith, long_of _ c.requires)
 
 pub returns : goal.returns
 returns c =
-    used-end _ (record { each = λ i. (c.shared_slice_known-1.given i).fits }) c.requires c.word_at.ensures.0 c.entry_offset.ensures
+    used-end _ (record { each = λ i. (c.type_inv.mem i).fits }) c.requires c.word_at.ensures.0 c.entry_offset.ensures

@@ -6,4 +6,4 @@ use Rattle.table.proofs.placing.compare_at.Goals as goal
 
 pub returns : goal.returns
 returns c =
-    read_back w8 _ c.compare.type-inv ∙ c.compare.ensures ∙ rw (c.entry_path.ensures, c.kind_from.ensures)
+    read_back w8 _ c.compare.type_inv ∙ c.compare.ensures ∙ rw (c.entry_path.ensures, c.kind_from.ensures)

@@ -3,7 +3,7 @@ use Rattle.table.proofs.ProbeLaws.{Probing}
 use Rattle.table.proofs.placing.search.Given as goal
 
 abbrev pub invariant-loop-size : goal.invariant-loop-size
-invariant-loop-size l = Probing l.mem (record { l.kind = l.kind; l.path = l.path }) l.base l.at l.size
+invariant-loop-size l = Probing l.mem (record { kind = l.kind; path = l.path }) l.base l.at l.size
 
 abbrev pub decreases-loop-size : goal.decreases-loop-size
 decreases-loop-size l = l.size

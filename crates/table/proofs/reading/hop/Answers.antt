@@ -1,31 +1,22 @@
 use native.Mathlib.Omega.{arith}
-use Prim.Native.Nat.{◌≤◌}
 use mathlib.Core.Path.{refl, sym, ◌∙◌}
-use mathlib.Core.Bool.{true}
-use lib.ListN.{length}
-use Rattle.table.specs.Memory.{next_at}
 use Rattle.table.proofs.Within.{within-inside, within-next, offset_at-step, offset_at-none}
 use Rattle.table.proofs.reading.hop.Goals as goal
-
--- the entry at `at` lies within the memory
-inside : (c : goal.In-loop-left)
-    → next_at c.args.mem.now c.loop-left.at ≤ length c.args.mem.now
-inside c = within-inside _ _ c.loop-left-test.true _ c.loop-left.invariant.0
 
 pub loop-left-init : goal.loop-left-init
 loop-left-init c = (c.requires, refl)
 
 pub overflow_add-at : goal.overflow_add-at
-overflow_add-at c = omega (arith, inside c)
+overflow_add-at c = omega (arith, within-inside _ _ c.loop-left-test.true _ c.loop-left.invariant.0)
 
 pub word_at-len-requires : goal.word_at-len-requires
-word_at-len-requires c = omega (arith, inside c)
+word_at-len-requires c = omega (arith, within-inside _ _ c.loop-left-test.true _ c.loop-left.invariant.0)
 
 pub overflow_add-at-in-loop-left : goal.overflow_add-at-in-loop-left
-overflow_add-at-in-loop-left c = omega (arith, inside c)
+overflow_add-at-in-loop-left c = omega (arith, within-inside _ _ c.loop-left-test.true _ c.loop-left.invariant.0)
 
 pub overflow_add-at-in-loop-left-2 : goal.overflow_add-at-in-loop-left-2
-overflow_add-at-in-loop-left-2 c = omega (arith, inside c)
+overflow_add-at-in-loop-left-2 c = omega (arith, within-inside _ _ c.loop-left-test.true _ c.loop-left.invariant.0)
 
 pub loop-left-preserved : goal.loop-left-preserved
 loop-left-preserved c =

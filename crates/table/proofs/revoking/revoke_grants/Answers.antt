@@ -6,11 +6,11 @@ use Rattle.table.proofs.revoking.revoke_grants.Goals as goal
 
 pub bounds-mem-2 : goal.bounds-mem-2
 bounds-mem-2 c =
-    omega (arith, (held _ c.requires).long, c.drop_grants.auto.0)
+    omega (arith, (held _ c.requires).long, c.drop_grants.auto.mem)
 
 pub write_switches-requires : goal.write_switches-requires
 write_switches-requires c =
-    omega (arith, (held _ c.requires).long, c.drop_grants.auto.0)
+    omega (arith, (held _ c.requires).long, c.drop_grants.auto.mem)
 
 pub returns : goal.returns
 returns c =

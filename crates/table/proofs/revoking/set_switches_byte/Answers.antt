@@ -1,5 +1,6 @@
 -- `set_switches_byte` meets its contract: the one byte that is written is the switches.
 use native.Mathlib.Omega.{arith}
+use Rattle.std.proofs.Common.{rules}
 use Rattle.table.proofs.Within.{held}
 use Rattle.table.proofs.RevokeLaws.{switch-law}
 use Rattle.table.proofs.revoking.set_switches_byte.Goals as goal
@@ -9,4 +10,4 @@ write_switches-requires c = omega (arith, (held _ c.requires.0).long)
 
 pub returns : goal.returns
 returns c =
-    switch-law _ _ _ (record { each = λ i. (c.slice_known-1.given i).fits }) c.requires.0 c.write_switches.ensures
+    switch-law c.args.mem.now _ _ (record { each = λ i. search rules }) c.requires.0 c.write_switches.ensures

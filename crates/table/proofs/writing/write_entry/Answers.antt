@@ -12,10 +12,10 @@ pub bounds-mem-at-3 : goal.bounds-mem-at-3
 bounds-mem-at-3 c = simp length-set (omega arith)
 
 pub shape_of-mem : goal.shape_of-mem
-shape_of-mem c = c.copy_in.auto.0 ∙ simp length-set
+shape_of-mem c = c.copy_in.auto.mem ∙ simp length-set
 
 pub returns : goal.returns
 returns c =
     c.copy_in.ensures
-    ∙ written c.args.mem-1.now c.args.at (record { kind = c.args.kind; path = c.args.path.now }) _ c.requires.1
+    ∙ written c.args.mem.now c.args.at (record { kind = c.args.kind; path = c.args.path.now }) _ c.requires.1
     c.kind_number.ensures

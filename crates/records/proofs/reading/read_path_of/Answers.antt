@@ -9,19 +9,6 @@ use Rattle.records.proofs.reading.read_path_of.Goals as goal
 pub returns-then-left-count : goal.returns-then-left-count
 returns-then-left-count c = path-cut _ _ _ (omega arith)
 
-pub take_bytes-requires : goal.take_bytes-requires
-take_bytes-requires c = omega arith
-
--- the bytes taken spell a path of n bytes, for as many words stand there
-pub hand_over-requires : goal.hand_over-requires
-hand_over-requires c =
-    let ws = c.args.words.now in
-    let at = c.args.at in
-    let n = c.args.n in
-    let room : words_for n ≤ length (drop at ws) = omega (arith, length-drop at ws) in
-    let spells = work-spells _ ws at n c.words_for-count.ensures c.take_bytes.ensures room in
-    rw (size_is ws at n spells room) (omega arith, omega arith)
-
 pub returns-then-not-hand_over : goal.returns-then-not-hand_over
 returns-then-not-hand_over c =
     let ws = c.args.words.now in

@@ -18,9 +18,6 @@ returns-then-number-eq0 c = headed-unnumbered (headed _ _ c.read_front-front.ens
 pub overflow_add-result : goal.overflow_add-result
 overflow_add-result c = let here = (headed _ _ c.read_front-front.ensures (of-run _ c.run_of-run.ensures c.if-run-eq0.false) c.in-Is.is).here in omega arith
 
-pub read_path-requires : goal.read_path-requires
-read_path-requires c = (headed _ _ c.read_front-front.ensures (of-run _ c.run_of-run.ensures c.if-run-eq0.false) c.in-Is.is).left
-
 pub returns-in-21 : goal.returns-in-21
 returns-in-21 c = headed-switches (headed _ _ c.read_front-front.ensures (of-run _ c.run_of-run.ensures c.if-run-eq0.false) c.in-Is.is) c.if-number-eq0.false c.in-21.is c.with_switches.ensures
 

@@ -5,7 +5,4 @@ pub mod FirstLaws
 pub mod SpellingLaws
 pub mod WritingLaws
 pub mod ReadingLaws
-pub mod Walk
-pub mod Lent
-pub mod Nexts
 pub mod NumberedLaws

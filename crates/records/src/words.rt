@@ -1,5 +1,4 @@
-// Lent words, read one after another. A reader holds the words and the place of the next one. Each function over a reader is thin, and its
-// proof is a walk by hand; what it calls is covered.
+// Lent words, read one after another. A reader holds the words and the place of the next one.
 ghost use Rattle.std.specs.Prelude.{◌≡◌, ◌-◌, length};
 ghost use Rattle.records.specs.Words.{read_at, past, front_at};
 
@@ -93,7 +92,7 @@ pub fn left<'a>(reader: Reader<'a>) -> usize
 }
 
 // Reads what a record or an image begins with. All three words are read whatever they say, for at the end reading gives nothing: which of them it
-// has is decided where they are looked at. The promise says nothing of a reader, so a caller needs no walk.
+// has is decided where they are looked at. The promise says nothing of a reader.
 pub fn read_front(words: &[u32], from: usize) -> Front
     ensures { result ≡ front_at words.now from }
 {

@@ -9,9 +9,6 @@ use Rattle.records.proofs.RecordLaws.{path-count}
 use Rattle.records.proofs.SpellingLaws.{take_more, differs, agrees}
 use Rattle.records.proofs.reading.are_words_of.Goals as goal
 
-pub loop-k-init : goal.loop-k-init
-loop-k-init c = (omega arith, refl)
-
 pub returns-then-words-at : goal.returns-then-words-at
 returns-then-words-at c =
     let a = c.args in

@@ -12,7 +12,7 @@ pub returns-then-word-ne-LENGTH : goal.returns-then-word-ne-LENGTH
 returns-then-word-ne-LENGTH c = rw c.in-Is.is (no_length _ c.if-word-ne-LENGTH.true)
 
 pub returns-then-n-gt-MAX_PATH : goal.returns-then-n-gt-MAX_PATH
-returns-then-n-gt-MAX_PATH c = let word = c.word-1 in rw word.given.1 (long-length word.given.0.0 (omega arith))
+returns-then-n-gt-MAX_PATH c = rw c.in-Is.is (long-length _ (omega arith))
 
 pub returns : goal.returns
-returns c = let word = c.word-1 in rw word.given.1 (is-length word.given.0.0 c.if-word-ne-LENGTH.false (omega arith))
+returns c = rw c.in-Is.is (is-length _ c.if-word-ne-LENGTH.false (omega arith))

@@ -9,15 +9,6 @@ use Rattle.records.specs.Steps.{word_bytes}
 use Rattle.records.proofs.SpellingLaws.{first-at, second_at, third_at, bytes_count, paste-three, length-take-drop, word-here}
 use Rattle.records.proofs.reading.take_bytes.Goals as goal
 
-pub loop-k-init : goal.loop-k-init
-loop-k-init c = (omega arith, paste-zero c.args.work.now 0 (word_bytes (take c.args.count (drop c.args.at c.args.words.now))), refl)
-
-pub bounds-work-i-in-loop-k : goal.bounds-work-i-in-loop-k
-bounds-work-i-in-loop-k c = simp length-set (omega arith)
-
-pub bounds-work-i-in-loop-k-2 : goal.bounds-work-i-in-loop-k-2
-bounds-work-i-in-loop-k-2 c = simp length-set (omega arith)
-
 pub loop-k-preserved : goal.loop-k-preserved
 loop-k-preserved c =
     let a = c.args in

@@ -12,7 +12,7 @@ pub returns-then-word-ne-SWITCHES : goal.returns-then-word-ne-SWITCHES
 returns-then-word-ne-SWITCHES c = rw c.in-Is.is (switches-other _ _ _ _ c.if-word-ne-SWITCHES.true)
 
 pub returns-then-switches : goal.returns-then-switches
-returns-then-switches c = let next = c.next-1 in rw next.given.1 (switches-unknown _ _ next.given.0.0 _ (omega arith))
+returns-then-switches c = rw c.in-Is.is (switches-unknown _ _ _ _ (omega arith))
 
 pub returns : goal.returns
-returns c = let next = c.next-1 in rw next.given.1 (switches-known _ _ next.given.0.0 _ c.if-word-ne-SWITCHES.false (omega arith))
+returns c = rw c.in-Is.is (switches-known _ _ _ _ c.if-word-ne-SWITCHES.false (omega arith))

@@ -5,8 +5,5 @@ use lib.ListN.{length-set}
 use Rattle.records.proofs.WritingLaws.{two-stores}
 use Rattle.records.proofs.writing.write_alone.Goals as goal
 
-pub bounds-words-at-2 : goal.bounds-words-at-2
-bounds-words-at-2 c = simp length-set (omega arith)
-
 pub returns : goal.returns
 returns c = record { content = two-stores _ _ _ _ (omega arith); end = refl }

@@ -8,11 +8,6 @@ use Rattle.records.specs.Records.{path_words}
 use Rattle.records.proofs.RecordLaws.{path-count}
 use Rattle.records.proofs.writing.write_path_words.Goals as goal
 
-pub loop-k-init : goal.loop-k-init
-loop-k-init c =
-    let a = c.args in
-    (omega arith, paste-zero a.words.now a.at (path_words a.p.now), refl)
-
 pub loop-k-preserved : goal.loop-k-preserved
 loop-k-preserved c =
     let a = c.args in

@@ -8,14 +8,11 @@ use Rattle.table.proofs.Overwrites.{appends-none, appends-as}
 use Rattle.records.proofs.WritingLaws.{no_words, insert-words, switches-words, revoke-words, revoke-all-words, insert-short, revoke-short}
 use Rattle.records.proofs.writing.write_record.Goals as goal
 
-pub head_word-requires : goal.head_word-requires
-head_word-requires c = rw c.insert_number.ensures (insert-few c.in-Insert.kind, omega arith)
-
 pub write_with_path-requires : goal.write_with_path-requires
-write_with_path-requires c = (insert-short _ c.requires.1 c.in-Insert.is, omega arith)
+write_with_path-requires c = (insert-short _ c.requires.q_value c.in-Insert.is, omega arith)
 
 pub write_with_path-requires-in-Revoke : goal.write_with_path-requires-in-Revoke
-write_with_path-requires-in-Revoke c = (revoke-short _ c.requires.1 c.in-Revoke.is, omega arith)
+write_with_path-requires-in-Revoke c = (revoke-short _ c.requires.q_value c.in-Revoke.is, omega arith)
 
 pub returns-in-Nothing : goal.returns-in-Nothing
 returns-in-Nothing c = appends-as (no_words _ _ _ c.in-Nothing.is) (appends-none _ _)

@@ -5,11 +5,5 @@ use lib.ListN.{length-set}
 use Rattle.records.proofs.WritingLaws.{three-stores}
 use Rattle.records.proofs.writing.write_with_switches.Goals as goal
 
-pub bounds-words-at-2 : goal.bounds-words-at-2
-bounds-words-at-2 c = simp length-set (omega arith)
-
-pub bounds-words-at-3 : goal.bounds-words-at-3
-bounds-words-at-3 c = simp length-set (omega arith)
-
 pub returns : goal.returns
 returns c = record { content = rw (← c.word_of.ensures) (three-stores _ _ _ _ _ (omega arith)); end = refl }

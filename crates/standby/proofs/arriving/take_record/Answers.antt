@@ -3,7 +3,6 @@ use mathlib.Core.Path.{◌≡◌, sym, ◌∙◌}
 use mathlib.Core.Bool.{true, false}
 use native.Mathlib.Omega.{arith}
 use lib.Seq.{length-take-le}
-use borrow.Author.Tests.{not-true, not-false}
 use Rattle.table.specs.Memory.{holds}
 use Rattle.standby.specs.Arriving.{conflict}
 use Rattle.standby.proofs.ArrivingLaws.{arrival-no-table, arrival-conflict, arrival-malformed, reads_none, reads-change, reads_more, comes-refused, comes-taken}
@@ -11,7 +10,7 @@ use Rattle.standby.proofs.arriving.take_record.Goals as goal
 
 -- memory holds a table
 held : (c : goal.Else-not-holds_table) → holds c.args.mem-1.now ≡ true
-held c = sym c.holds_table.ensures ∙ not-false _ c.if-not-holds_table.false
+held c = sym c.holds_table.ensures ∙ c.if-not-holds_table.false
 
 -- and the numbers agree
 agreed : (c : goal.Else-in_conflict) → conflict c.args.numbers ≡ false
@@ -19,7 +18,7 @@ agreed c = sym c.in_conflict.ensures ∙ c.if-in_conflict.false
 
 pub returns-then-not-holds_table : goal.returns-then-not-holds_table
 returns-then-not-holds_table c =
-    comes-refused (arrival-no-table _ _ _ (sym c.holds_table.ensures ∙ not-true _ c.if-not-holds_table.true)) c.refused.ensures
+    comes-refused (arrival-no-table _ _ _ (sym c.holds_table.ensures ∙ c.if-not-holds_table.true)) c.refused.ensures
 
 pub returns-then-in_conflict : goal.returns-then-in_conflict
 returns-then-in_conflict c =

@@ -2,4 +2,3 @@ pub mod ArrivingLaws
 pub mod LoadingLaws
 pub mod KeepLaws
 pub mod OwingLaws
-pub mod Lending

@@ -174,7 +174,7 @@ pub fn take_record(mem: &mut [u8], words: &[u32], numbers: Numbers) -> Arrived
     }
 }
 
-// An arrival: the lent numbers are taken out, and what they are after it is put back. Its proof is a walk by hand.
+// An arrival: the lent numbers are taken out, and what they are after it is put back.
 pub fn arrive(mem: &mut [u8], words: &[u32], numbers: &mut Numbers) -> Arrival
     ensures { Arrives mem.old words.now numbers.old mem.new numbers.new result }
 {

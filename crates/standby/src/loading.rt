@@ -57,7 +57,7 @@ pub fn take_image(mem: &mut [u8], words: &[u32], numbers: Numbers) -> Arrived
     }
 }
 
-// An image arrives: the lent numbers are taken out, and what they are after it is put back. Its proof is a walk by hand.
+// An image arrives: the lent numbers are taken out, and what they are after it is put back.
 pub fn load(mem: &mut [u8], words: &[u32], numbers: &mut Numbers) -> Arrival
     ensures { Loads mem.old words.now numbers.old mem.new numbers.new result }
 {

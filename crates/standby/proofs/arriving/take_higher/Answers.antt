@@ -9,7 +9,7 @@ returns-then-number-ne1 c = moves-early _ _ _ _ _ (λ e. omega arith)
 pub carry_out-requires : goal.carry_out-requires
 carry_out-requires c =
     let p = c.requires in
-    (cleared-holds p.0 c.make_fresh.ensures, p.1)
+    record { mem_value = cleared-holds p.0 c.make_fresh.ensures; q_value = p.1 }
 
 pub returns : goal.returns
 returns c =

@@ -1,8 +1,8 @@
 use mathlib.Core.Path.{refl, sym, ◌∙◌}
-use mathlib.Core.Logic.{⊎_elim}
 use Rattle.table.proofs.ReadingLaws.{first-in, fewer-left, next-in}
 use Rattle.walk.proofs.SeeingLaws.{meets_at, path-resolved, sees-passed, walking_start, walking_on, walking-end, walking-settled}
 use Rattle.walk.proofs.walking.walk.Goals as goal
+use Rattle.walk.proofs.walking.walk.Goals.{then-met+else-is_settled, else-met}
 
 pub loop-mode-init : goal.loop-mode-init
 loop-mode-init c = rw c.first-cursor.ensures (first-in _ c.requires, walking_start _ _ _ refl refl)
@@ -46,10 +46,10 @@ loop-mode-preserved c =
     rw c.advance-cursor.ensures (
       next-in (record { rest = inv.0; more = more }),
       walking_on more inv.1
-          (⊎_elim
-          (λ x. rw x.5 (x.2.ensures.more _ _ _ x.1.ensures M inv.1.sees))
-          (λ x. rw x.1 (sees-passed _ _ _ M x.0.left inv.1.sees))
-          c.if-met.branch),
+          (elim c.if-met.branch [
+            | then-met+else-is_settled w ↦ rw w.seen-is (w.with_entry-seen.ensures.more _ _ _ w.kind.ensures M inv.1.sees)
+            | else-met w ↦ rw w.seen-is (sees-passed _ _ _ M w.if-met.false inv.1.sees)
+          ]),
     )
 
 pub returns : goal.returns

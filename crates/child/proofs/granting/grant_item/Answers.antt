@@ -12,7 +12,7 @@ pub slice_bounds-resolved-end : goal.slice_bounds-resolved-end
 slice_bounds-resolved-end c = (settled-stands c.settle.ensures c.in-Decided.is).room
 
 pub slice_bounds-pass_on-end : goal.slice_bounds-pass_on-end
-slice_bounds-pass_on-end c = sym (length-take-le _ _ (slice_bounds-resolved-end c))
+slice_bounds-pass_on-end c = sym (length-take-le _ _ (settled-stands c.settle.ensures c.in-Decided.is).room)
 
 pub pass_on-outcome-requires : goal.pass_on-outcome-requires
 pass_on-outcome-requires c = (c.requires.1, (settled-stands c.settle.ensures c.in-Decided.is).fits)

@@ -4,19 +4,18 @@ ghost use Rattle.std.specs.Prelude.{◌≤◌, length};
 ghost use Rattle.input.specs.Parts.{ReadsAfter, KeepsRest};
 
 use crate::Came;
-use libc::STDIN_FILENO;
+use std::io::Read;
 use table::writing::move_down;
 
 // Reads once, after the first `left` bytes of the buffer.
-pub fn read_after(buffer: &mut [u8], left: usize) -> Came
+pub fn read_after<R: Read>(reader: &mut R, buffer: &mut [u8], left: usize) -> Came
     requires { left ≤ length buffer.old }
     ensures { ReadsAfter buffer.old left buffer.new result }
 {
-    let got = libc::read(STDIN_FILENO, &mut buffer[left..]);
-    if got < 0 {
-        return Came::Failed;
+    match reader.read(&mut buffer[left..]) {
+        Ok(more) => Came::Bytes(more),
+        Err(_) => Came::Failed,
     }
-    Came::Bytes(io::count(got, &buffer[left..]))
 }
 
 // Of the buffer's first `len` bytes the first `taken` are done with: moves the others to its front, and says how many they are.

@@ -3,7 +3,7 @@ ghost use Rattle.std.specs.Prelude.{◌++◌, ◌+◌, ◌≤◌, length};
 ghost use Rattle.paths.specs.Copying.{Appends};
 ghost use Rattle.text.specs.Text.{decimal_digits, decimal};
 
-use crate::DECIMAL_DIGITS;
+use itoa::Buffer;
 use paths::copying::append;
 
 // Writes a number in decimal.
@@ -11,9 +11,8 @@ pub fn append_decimal(space: &mut [u8], at: usize, n: u64) -> usize
     requires { at + decimal_digits ≤ length space.old }
     ensures { Appends (decimal n) space.old at space.new result }
 {
-    let mut digits = [0u8; DECIMAL_DIGITS];
-    let k = io::decimal(n, &mut digits);
-    append(space, at, &digits[..k])
+    let mut digits = Buffer::new();
+    append(space, at, digits.format(n).as_bytes())
 }
 
 // Writes a label, and a number in decimal after it.

@@ -6,13 +6,15 @@ ghost use Rattle.refusals.specs.Refusals.{refusal_number};
 
 #[derive(Clone, Copy)]
 pub enum Refusal {
-    // Lent memory is too small for a table or holds none, or the standby's n is above its h.
+    // Lent memory is too small for a table or holds none; or the standby's run is above the highest run met, or its n above its h while the two runs
+    // are the same.
     NoTable,
     // Lent text, record or image space is too small.
     NoSpace,
-    // A number that should be a state, of a permission without a path, is none.
+    // A number that should be a state, of a permission without a path, names none.
     UnknownState,
-    // An answer, mode, kind, child code, switches value or child list is none that the call takes.
+    // An answer, mode, kind, child code or switches value is unknown, or a child list is not one that its code takes; or a run number handed to the
+    // main is not from 1 to 268,435,455.
     Unknown,
     EmptyPath,
     PathTooLong,
@@ -25,8 +27,9 @@ pub enum Refusal {
     NumbersUsedUp,
     // A child asks for more than its parent passes.
     Escalation,
+    // A record is malformed, as one without its run word is.
     MalformedRecord,
-    // The words are no image, or their content is no table.
+    // An image is malformed, as one without its run word is, or its content is not a table.
     MalformedImage,
 }
 

@@ -7,13 +7,16 @@ pub mod arriving;
 pub mod loading;
 pub mod owing;
 
-// The standby's numbers: the last change applied in its run, the highest number met in the highest run met, its run, and the highest run met. A record or an
-// image that is not refused is met. All four are 0 on a fresh standby.
+// The standby's numbers. A record or an image that is not refused is met. All four are 0 on a fresh standby.
 #[derive(Clone, Copy)]
 pub struct Numbers {
+    // The last change applied in its run.
     pub n: u64,
+    // The highest number met in the highest run met.
     pub h: u64,
+    // Its run.
     pub run: u32,
+    // The highest run met.
     pub highest: u32,
 }
 

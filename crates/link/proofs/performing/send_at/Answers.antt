@@ -9,12 +9,15 @@ pub returns-then-is_nothing : goal.returns-then-is_nothing
 returns-then-is_nothing c = sends_none _ _ _ _ _ (sym (c.is_nothing.ensures _) ∙ c.if-is_nothing.true)
 
 pub overflow_add-next : goal.overflow_add-next
-overflow_add-next c = omega (arith, c.requires.1.1)
+overflow_add-next c = omega (arith, c.requires.q_value.1)
 
 pub write_record-requires : goal.write_record-requires
 write_record-requires c =
     let pre = c.requires in
-    ((omega (arith, pre.0.room _ refl), run-few _ (pre.0.known _ refl), omega (arith, pre.1.1)), pre.1.0)
+    record {
+      record_space_in_bounds = (omega (arith, pre.ready.room _ refl), run-few _ (pre.ready.known _ refl), omega (arith, pre.q_value.1));
+      q_value = pre.q_value.0;
+    }
 
 pub returns : goal.returns
-returns c = sends-record _ _ _ _ _ (sym (c.is_nothing.ensures _) ∙ c.if-is_nothing.false) c.requires.1.0 refl c.write_record.ensures
+returns c = sends-record _ _ _ _ _ (sym (c.is_nothing.ensures _) ∙ c.if-is_nothing.false) c.requires.q_value.0 refl c.write_record.ensures

@@ -1,6 +1,6 @@
 use mathlib.Core.Path.{sym, ◌∙◌}
 use native.Mathlib.Omega.{arith}
-use Rattle.images.proofs.ReadingLaws.{Told, told, testing-start, testing-stops, testing-next, testing-longer, testing-heavier, testing-ends}
+use Rattle.images.proofs.ReadingLaws.{told, testing-start, testing-stops, testing-next, testing-longer, testing-heavier, testing-ends}
 use Rattle.images.proofs.reading.are_entries.Goals as goal
 
 pub loop-left-init : goal.loop-left-init
@@ -10,18 +10,14 @@ pub returns-in_default : goal.returns-in_default
 returns-in_default c =
     testing-stops c.loop-left.invariant (omega arith) (sym c.in_default.is ∙ c.read_entry.ensures.answer)
 
--- the entry that was read
-entry : (c : goal.In-Entry) → Told c.args.words.now c.loop-left.at c.in-Entry.kind-1 c.in-Entry.n c.in-Entry.end
-entry c = told _ _ (sym c.in-Entry.is ∙ c.read_entry.ensures.answer)
-
 pub overflow_add-total : goal.overflow_add-total
-overflow_add-total c = omega (arith, (entry c).short, c.loop-left.invariant.few)
-
-pub marked-seen-requires : goal.marked-seen-requires
-marked-seen-requires c = c.loop-left.invariant.small
+overflow_add-total c =
+    let entry = told _ _ (sym c.in-Entry.is ∙ c.read_entry.ensures.answer) in
+    omega (arith, entry.short, c.loop-left.invariant.few)
 
 pub loop-left-preserved : goal.loop-left-preserved
-loop-left-preserved c = testing-next c.loop-left.invariant (omega arith) (entry c) c.marked-seen.ensures
+loop-left-preserved c =
+    testing-next c.loop-left.invariant (omega arith) (told _ _ (sym c.in-Entry.is ∙ c.read_entry.ensures.answer)) c.marked-seen.ensures
 
 pub returns-then-at-words : goal.returns-then-at-words
 returns-then-at-words c = testing-longer c.loop-left.invariant (omega arith) (λ e. omega arith)

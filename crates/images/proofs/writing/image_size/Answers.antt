@@ -8,21 +8,9 @@ use Rattle.images.proofs.writing.image_size.Goals as goal
 pub loop-cursor-init : goal.loop-cursor-init
 loop-cursor-init c = counting-start _ c.requires c.first-cursor.ensures
 
-pub path-n-requires : goal.path-n-requires
-path-n-requires c = counting-reads c.loop-cursor.invariant (sym c.is_at_entry.ensures ∙ c.loop-cursor-test.true)
-
 pub words_for-requires : goal.words_for-requires
 words_for-requires c =
     rw c.path-n.ensures (path-fits (counting-reads c.loop-cursor.invariant (sym c.is_at_entry.ensures ∙ c.loop-cursor-test.true)))
-
-pub overflow_add-size-in-loop-cursor : goal.overflow_add-size-in-loop-cursor
-overflow_add-size-in-loop-cursor c =
-    let few = counting-fits c.loop-cursor.invariant (sym c.is_at_entry.ensures ∙ c.loop-cursor-test.true) (ap length c.path-n.ensures) c.words_for.ensures in
-    omega arith
-
-pub advance-cursor-requires : goal.advance-cursor-requires
-advance-cursor-requires c =
-    counting-reads c.loop-cursor.invariant (sym c.is_at_entry.ensures ∙ c.loop-cursor-test.true)
 
 pub loop-cursor-smaller : goal.loop-cursor-smaller
 loop-cursor-smaller c =

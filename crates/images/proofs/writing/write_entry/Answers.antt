@@ -17,9 +17,6 @@ write_path_words-requires c =
     let a = c.args in
     simp length-set (omega (arith, entry_length (record { kind = a.kind; path = a.path.now })))
 
-pub shape_of-words : goal.shape_of-words
-shape_of-words c = c.write_path_words.auto.0 ∙ simp length-set
-
 pub returns : goal.returns
 unfolding entry_words
 returns c =
@@ -28,6 +25,6 @@ returns c =
       content =
           c.write_path_words.ensures.content
           ∙ rw (c.word_of.ensures, c.kind_number.ensures)
-          (one-before a.words-1.now a.at _ _ (omega (arith, entry_length (record { kind = a.kind; path = a.path.now }))));
+          (one-before a.words.now a.at _ _ (omega (arith, entry_length (record { kind = a.kind; path = a.path.now }))));
       end = c.write_path_words.ensures.end ∙ omega arith;
     }

@@ -20,7 +20,7 @@ response_at-requires c = let listed = c.requires.2 in (listed.known, omega (arit
 pub grant_item-sent-requires : goal.grant_item-sent-requires
 grant_item-sent-requires c =
     let pre = c.requires in
-    (c.loop-i.invariant.items.parent-1, c.loop-i.invariant.items.child-1, sent-room c.loop-i.invariant c.loop-i-test.true (omega (arith, pre.2.many)) c.response_at.ensures refl)
+    (c.loop-i.invariant.items.parent, c.loop-i.invariant.items.child, sent-room c.loop-i.invariant c.loop-i-test.true (omega (arith, pre.2.many)) c.response_at.ensures refl)
 
 pub overflow_add-asked : goal.overflow_add-asked
 overflow_add-asked c =
@@ -40,7 +40,7 @@ shape_of-child-in-Refused c =
 pub shape_of-words-in-Refused : goal.shape_of-words-in-Refused
 shape_of-words-in-Refused c =
     let listed = c.requires.2 in
-    c.grant_item-sent.auto.1.1.1.1.0 ∙ c.loop-i.invariant.same-words
+    c.grant_item-sent.auto.words ∙ c.loop-i.invariant.same-words
 
 pub returns-in-Refused : goal.returns-in-Refused
 returns-in-Refused c =
@@ -54,7 +54,7 @@ overflow_add-i c =
 pub loop-i-preserved : goal.loop-i-preserved
 loop-i-preserved c =
     let listed = c.requires.2 in
-    sent-next c.loop-i.invariant c.loop-i-test.true (omega (arith, listed.many)) c.response_at.ensures refl c.grant_item-sent.ensures c.in_default.is refl c.grant_item-sent.auto.1.1.1.1.0
+    sent-next c.loop-i.invariant c.loop-i-test.true (omega (arith, listed.many)) c.response_at.ensures refl c.grant_item-sent.ensures c.in_default.is refl c.grant_item-sent.auto.words
 
 pub shape_of-parent : goal.shape_of-parent
 shape_of-parent c = c.loop-i.invariant.items.same-parent

@@ -14,6 +14,14 @@ overflow_cast-end c = omega (arith, c.shared_slice_known-in-loop-i-1.given c.loo
 pub slice_bounds-grant_item-count : goal.slice_bounds-grant_item-count
 slice_bounds-grant_item-count c = let lies = closing-next _ _ _ _ c.loop-i-test.true c.loop-i.invariant.items.closes in omega arith
 
+pub slice_bounds-grant_item-start : goal.slice_bounds-grant_item-start
+slice_bounds-grant_item-start c =
+    (closing-next _ _ _ _ c.loop-i-test.true c.loop-i.invariant.items.closes).rises
+
+pub slice_bounds-grant_item-end : goal.slice_bounds-grant_item-end
+slice_bounds-grant_item-end c =
+    (closing-next _ _ _ _ c.loop-i-test.true c.loop-i.invariant.items.closes).within
+
 pub response_at-requires : goal.response_at-requires
 response_at-requires c = let listed = c.requires.2 in (listed.known, omega (arith, listed.many))
 

@@ -9,10 +9,7 @@ pub loop-i-init : goal.loop-i-init
 loop-i-init c = let pre = c.requires in sent-start _ _ _ _ _ _ _ _ _ pre.0 pre.1 pre.2.closes pre.3
 
 pub overflow_cast-end : goal.overflow_cast-end
-overflow_cast-end c = omega (arith, c.shared_slice_known-in-loop-i-1.given c.loop-i.i)
-
-pub slice_bounds-grant_item-count : goal.slice_bounds-grant_item-count
-slice_bounds-grant_item-count c = let lies = closing-next _ _ _ _ c.loop-i-test.true c.loop-i.invariant.items.closes in omega arith
+overflow_cast-end c = omega (arith, c.type_inv.ends c.loop-i.i)
 
 pub slice_bounds-grant_item-start : goal.slice_bounds-grant_item-start
 slice_bounds-grant_item-start c =

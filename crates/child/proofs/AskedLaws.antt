@@ -36,14 +36,14 @@ then-asked a b j k n f g h = by a.refused
     by none = unfold onward in omega arith
     by (some cause) = unfold onward in omega arith
 
-items-asked : (numbers : Numbering) (cwd : List ℕ) (items : List Item) (t u : Table) → (all_items numbers cwd items t u).asked ≤ length items
+items-asked : (cwd : List ℕ) (items : List Item) (numbers : Numbering) (t u : Table) → (all_items numbers cwd items t u).asked ≤ length items
 unfolding all_items
-items-asked numbers cwd [] t u = omega arith
-items-asked numbers cwd (i ∷ items) t u = then-asked _ _ 1 (length items) _ (item-once numbers cwd i t u) (items-asked _ cwd items _ _) (omega arith)
+items-asked cwd [] numbers t u = omega arith
+items-asked cwd (i ∷ items) numbers t u = then-asked _ _ 1 (length items) _ (item-once numbers cwd i t u) (items-asked cwd items _ _ _) (omega arith)
 
 made-asked : (numbers : Numbering) (t : Table) (args : Arguments) (cwd : List ℕ) → (create_child numbers t args cwd).asked ≤ length args.items
 unfolding create_child completed
-made-asked numbers t args cwd = then-asked _ _ (length args.items) 0 _ (items-asked numbers cwd args.items t _) (rw (over-asked _ _) (omega arith)) (omega arith)
+made-asked numbers t args cwd = then-asked _ _ (length args.items) 0 _ (items-asked cwd args.items numbers t _) (rw (over-asked _ _) (omega arith)) (omega arith)
 
 -- ---- items
 

@@ -167,13 +167,13 @@ item-keeps (ok decision) q u =
     then_keeps u (checked decision) _ _ refl (unfold checked apply_acts in refl)
     (λ o. unfold checked apply_acts in passed-keeps decision.state q u)
 
-list-keeps : (numbers : Numbering) (cwd bytes : List ℕ) (from : ℕ) (ends : List ℕ) (responses : List PromptResponse) (t u : Table)
+list-keeps : (cwd bytes : List ℕ) (from : ℕ) (ends : List ℕ) (responses : List PromptResponse) (numbers : Numbering) (t u : Table)
     → (after u (all_items numbers cwd (list_items bytes from ends responses) t u)).switches ≡ u.switches
 unfolding all_items list_items item_step
-list-keeps numbers cwd bytes from [] responses t u = unfold apply_acts in refl
-list-keeps numbers cwd bytes from (end ∷ ends) [] t u = unfold apply_acts in refl
-list-keeps numbers cwd bytes from (end ∷ ends) (response ∷ responses) t u =
-    then_keeps u _ _ _ refl (item-keeps _ _ u) (λ o. list-keeps _ cwd bytes end ends responses _ _)
+list-keeps cwd bytes from [] responses numbers t u = unfold apply_acts in refl
+list-keeps cwd bytes from (end ∷ ends) [] numbers t u = unfold apply_acts in refl
+list-keeps cwd bytes from (end ∷ ends) (response ∷ responses) numbers t u =
+    then_keeps u _ _ _ refl (item-keeps _ _ u) (λ o. list-keeps cwd bytes end ends responses _ _ _)
 
 -- it never has switch 1, whatever its parent was asked on the way
 pub list-without-one : (numbers : Numbering) (t : Table) (bytes ends : List ℕ) (responses : List PromptResponse) (cwd : List ℕ)
@@ -192,6 +192,6 @@ list-without-one numbers t bytes ends responses cwd e = by items.refused refl
     by none f =
         ap (λ (x : Table). has x.switches granted) (after_then fresh items over f)
         ∙ ap (λ (n : ℕ). has n granted) (takes-switches _ _ (sym (ap (λ (x : Made). x.refused) (then-goes items over f)) ∙ e))
-        ∙ ap (λ (n : ℕ). has (child_switches (apply_acts t items.acts).switches n) granted) (list-keeps numbers cwd bytes 0 ends responses t fresh)
+        ∙ ap (λ (n : ℕ). has (child_switches (apply_acts t items.acts).switches n) granted) (list-keeps cwd bytes 0 ends responses numbers t fresh)
         ∙ own-none (apply_acts t items.acts).switches
     by (some cause) f = let z : ◌≡◌ {A = ℕ} 0 1 = cc (ap (λ (x : Made). x.refused) (then-stops items over f)) in absurd (omega arith)

@@ -82,7 +82,7 @@ module _ {link : Link} {l : Lent} {at : ℕ} {d : Descriptor} {p cwd : List ℕ}
       let P = rw (q, T.state-is) at M in
       record {
         outcome = P.outcome ∙ ap outcome_of (sym (ap (λ (x : Result Decision). (item_by x (query_of d (resolve p cwd)) (table_of c)).refused) T.is ∙ item-outcome T.decision _ (table_of c)));
-        asked = f ∙ ap count_of T.Asked-is ∙ sym (ap (λ (x : Result Decision). (item_by x (query_of d (resolve p cwd)) (table_of c)).asked) T.is ∙ item-asked T.decision _ (table_of c));
+        asked = f ∙ ap count_of T.asked_is ∙ sym (ap (λ (x : Result Decision). (item_by x (query_of d (resolve p cwd)) (table_of c)).asked) T.is ∙ item-asked T.decision _ (table_of c));
         parent = S.memory ∙ ap (do_acts l.memory) (sym (item-acts (settled Check (numbering link l.number) (table_of l.memory) d p cwd response) _ (table_of c)));
         child = P.child ∙ ap (do_acts c) (sym (item-grants (settled Check (numbering link l.number) (table_of l.memory) d p cwd response) _ (table_of c) T.is));
       }

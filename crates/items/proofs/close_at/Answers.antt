@@ -1,4 +1,3 @@
-use Prim.Native.Nat.{◌-◌}
 use mathlib.Core.Path.{refl, sym, ◌∙◌}
 use native.Mathlib.Omega.{arith}
 use Rattle.items.proofs.ItemListLaws.{closes-end, closes-fallen, closes-next}
@@ -8,7 +7,7 @@ pub loop-i-init : goal.loop-i-init
 loop-i-init c = refl
 
 pub overflow_cast-end : goal.overflow_cast-end
-overflow_cast-end c = omega (arith, c.shared_slice_known-1.given c.loop-i.i)
+overflow_cast-end c = omega (arith, c.type_inv.ends c.loop-i.i)
 
 pub returns-then-end-from : goal.returns-then-end-from
 returns-then-end-from c =

@@ -7,10 +7,10 @@ use Rattle.calls.proofs.AskLaws.{query-refused, query-decided}
 use Rattle.calls.proofs.asking.settle_query.Goals as goal
 
 pub slice_bounds-q-end : goal.slice_bounds-q-end
-slice_bounds-q-end c = sym (length-take-le _ _ c.requires.1.0)
+slice_bounds-q-end c = sym (length-take-le _ _ c.requires.n_in_bounds.0)
 
 pub perform-sent-requires : goal.perform-sent-requires
-perform-sent-requires c = (c.requires.0.0, rw c.decide-decided.ensures.act (decided-fits _ (valid-of _ c.requires.0.0) _ c.requires.1.1 _ _), c.requires.0.1)
+perform-sent-requires c = (c.requires.mem_value.0, rw c.decide-decided.ensures.act (decided-fits _ (valid-of _ c.requires.mem_value.0) _ c.requires.n_in_bounds.1 _ _), c.requires.mem_value.1)
 
 pub returns-in-Refused : goal.returns-in-Refused
 returns-in-Refused c = query-refused c.decide-decided.ensures c.perform-sent.ensures c.in-Refused.is

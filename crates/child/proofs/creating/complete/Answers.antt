@@ -13,7 +13,7 @@ returns-in-Refused c =
     stopped-before _ c.in-Refused.is up.0 up.1
 
 pub give_up-requires-in-Refused-take_over : goal.give_up-requires-in-Refused-take_over
-give_up-requires-in-Refused-take_over c = omega (arith, long_of _ c.requires.1, c.take_over.auto)
+give_up-requires-in-Refused-take_over c = omega (arith, long_of _ c.requires.1, c.take_over.auto.child)
 
 pub returns-in-Refused-take_over : goal.returns-in-Refused-take_over
 returns-in-Refused-take_over c =

@@ -41,7 +41,7 @@ pub begin-requires : goal.begin-requires
 begin-requires c = (sym c.holds_table.ensures ∙ c.if-not-holds_table.false, omega arith)
 
 pub grant_all-sent-requires : goal.grant_all-sent-requires
-grant_all-sent-requires c = ((sym c.holds_table.ensures ∙ c.if-not-holds_table.false, first-held _ _ _ (sym c.holds_table.ensures ∙ c.if-not-holds_table.false) (omega arith) c.begin.ensures), ((sym c.are_responses.ensures ∙ c.if-not-are_responses.false, sym c.are_in_order.ensures ∙ c.if-not-are_in_order.false), admitted c.lacks_room.ensures c.if-lacks_room.false c.lacks_run.ensures c.if-lacks_run.false))
+grant_all-sent-requires c = record { parent_value = (sym c.holds_table.ensures ∙ c.if-not-holds_table.false, first-held _ _ _ (sym c.holds_table.ensures ∙ c.if-not-holds_table.false) (omega arith) c.begin.ensures); responses_value = (sym c.are_responses.ensures ∙ c.if-not-are_responses.false, sym c.are_in_order.ensures ∙ c.if-not-are_in_order.false); admits = admitted c.lacks_room.ensures c.if-lacks_room.false c.lacks_run.ensures c.if-lacks_run.false }
 
 pub complete-requires : goal.complete-requires
 complete-requires c = through-held (through _ _ _ _ _ _ _ _ (sym c.holds_table.ensures ∙ c.if-not-holds_table.false) (omega arith) (sym c.arg_of.ensures ∙ c.in-Arg.is) (sym c.are_in_order.ensures ∙ c.if-not-are_in_order.false) (sym c.are_responses.ensures ∙ c.if-not-are_responses.false) (admitted c.lacks_room.ensures c.if-lacks_room.false c.lacks_run.ensures c.if-lacks_run.false) c.begin.ensures c.grant_all-sent.ensures)

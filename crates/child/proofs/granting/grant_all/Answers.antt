@@ -7,15 +7,15 @@ use Rattle.child.proofs.granting.grant_all.Goals as goal
 
 pub response_at-requires : goal.response_at-requires
 unfolding responses_due
-response_at-requires c = (c.requires.1.0.0, rw (due-many _ _ _ _ c.requires.1.0.1, c.in-Granted.is) (omega arith))
+response_at-requires c = (c.requires.responses_value.0, rw (due-many _ _ _ _ c.requires.responses_value.1, c.in-Granted.is) (omega arith))
 
 pub grant_item-requires : goal.grant_item-requires
-grant_item-requires c = let pre = c.requires in (pre.0.0, pre.0.1, one-ready _ _ _ pre.1.1)
+grant_item-requires c = let pre = c.requires in (pre.parent_value.0, pre.parent_value.1, one-ready _ _ _ pre.admits)
 
 pub grant_items-requires : goal.grant_items-requires
 grant_items-requires c =
     let pre = c.requires in
-    (pre.0.0, pre.0.1, listed _ _ _ _ c.in-GrantedList.is pre.1.0.1 pre.1.0.0, pre.1.1)
+    (pre.parent_value.0, pre.parent_value.1, listed _ _ _ _ c.in-GrantedList.is pre.responses_value.1 pre.responses_value.0, pre.admits)
 
 pub returns-in-Inherit : goal.returns-in-Inherit
 returns-in-Inherit c = λ known k. sent-inherited _ _ _ known c.in-Inherit.is c.done.ensures
@@ -25,7 +25,7 @@ returns-in-NotGranted c = λ known k. sent-refused _ _ _ known c.in-NotGranted.i
 
 pub returns-in-Granted : goal.returns-in-Granted
 unfolding responses_due
-returns-in-Granted c = λ known k. sent-one _ _ _ _ known c.in-Granted.is (rw (due-many _ _ _ _ c.requires.1.0.1, c.in-Granted.is) (omega arith)) k c.response_at.ensures c.grant_item.ensures
+returns-in-Granted c = λ known k. sent-one _ _ _ _ known c.in-Granted.is (rw (due-many _ _ _ _ c.requires.responses_value.1, c.in-Granted.is) (omega arith)) k c.response_at.ensures c.grant_item.ensures
 
 pub returns-in-GrantedList : goal.returns-in-GrantedList
 returns-in-GrantedList c = λ known k. sent-list _ _ _ known c.in-GrantedList.is (c.grant_items.ensures known k)

@@ -15,7 +15,7 @@ pub slice_bounds-pass_on-end : goal.slice_bounds-pass_on-end
 slice_bounds-pass_on-end c = sym (length-take-le _ _ (settled-stands c.settle.ensures c.in-Decided.is).room)
 
 pub pass_on-outcome-requires : goal.pass_on-outcome-requires
-pass_on-outcome-requires c = (c.requires.1, (settled-stands c.settle.ensures c.in-Decided.is).fits)
+pass_on-outcome-requires c = record { child_value = c.requires.1; q_value = (settled-stands c.settle.ensures c.in-Decided.is).fits }
 
 pub returns-in-Refused : goal.returns-in-Refused
 returns-in-Refused c = item-stops c.settle.ensures _ c.in-Refused.is c.refused.ensures

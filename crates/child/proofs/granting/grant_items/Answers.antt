@@ -9,10 +9,15 @@ pub loop-i-init : goal.loop-i-init
 loop-i-init c = let pre = c.requires in sent-start _ _ _ _ _ _ _ _ _ pre.0 pre.1 pre.2.closes pre.3
 
 pub overflow_cast-end : goal.overflow_cast-end
-overflow_cast-end c = omega (arith, c.shared_slice_known-in-loop-i-1.given c.loop-i.i)
+overflow_cast-end c = omega (arith, c.type_inv.ends c.loop-i.i)
 
-pub slice_bounds-grant_item-count : goal.slice_bounds-grant_item-count
-slice_bounds-grant_item-count c = let lies = closing-next _ _ _ _ c.loop-i-test.true c.loop-i.invariant.items.closes in omega arith
+pub slice_bounds-grant_item-start : goal.slice_bounds-grant_item-start
+slice_bounds-grant_item-start c =
+    (closing-next _ _ _ _ c.loop-i-test.true c.loop-i.invariant.items.closes).rises
+
+pub slice_bounds-grant_item-end : goal.slice_bounds-grant_item-end
+slice_bounds-grant_item-end c =
+    (closing-next _ _ _ _ c.loop-i-test.true c.loop-i.invariant.items.closes).within
 
 pub response_at-requires : goal.response_at-requires
 response_at-requires c = let listed = c.requires.2 in (listed.known, omega (arith, listed.many))
@@ -20,7 +25,7 @@ response_at-requires c = let listed = c.requires.2 in (listed.known, omega (arit
 pub grant_item-sent-requires : goal.grant_item-sent-requires
 grant_item-sent-requires c =
     let pre = c.requires in
-    (c.loop-i.invariant.items.parent-1, c.loop-i.invariant.items.child-1, sent-room c.loop-i.invariant c.loop-i-test.true (omega (arith, pre.2.many)) c.response_at.ensures refl)
+    (c.loop-i.invariant.items.parent, c.loop-i.invariant.items.child, sent-room c.loop-i.invariant c.loop-i-test.true (omega (arith, pre.2.many)) c.response_at.ensures refl)
 
 pub overflow_add-asked : goal.overflow_add-asked
 overflow_add-asked c =
@@ -40,7 +45,7 @@ shape_of-child-in-Refused c =
 pub shape_of-words-in-Refused : goal.shape_of-words-in-Refused
 shape_of-words-in-Refused c =
     let listed = c.requires.2 in
-    c.grant_item-sent.auto.1.1.1.1.0 ∙ c.loop-i.invariant.same-words
+    c.grant_item-sent.auto.words ∙ c.loop-i.invariant.same-words
 
 pub returns-in-Refused : goal.returns-in-Refused
 returns-in-Refused c =
@@ -54,7 +59,7 @@ overflow_add-i c =
 pub loop-i-preserved : goal.loop-i-preserved
 loop-i-preserved c =
     let listed = c.requires.2 in
-    sent-next c.loop-i.invariant c.loop-i-test.true (omega (arith, listed.many)) c.response_at.ensures refl c.grant_item-sent.ensures c.in_default.is refl c.grant_item-sent.auto.1.1.1.1.0
+    sent-next c.loop-i.invariant c.loop-i-test.true (omega (arith, listed.many)) c.response_at.ensures refl c.grant_item-sent.ensures c.in_default.is refl c.grant_item-sent.auto.words
 
 pub shape_of-parent : goal.shape_of-parent
 shape_of-parent c = c.loop-i.invariant.items.same-parent

@@ -12,7 +12,7 @@ returns-then-not-is_passed c = passes-not _ _ (sym c.is_passed.ensures ∙ c.if-
 pub carry_out-requires : goal.carry_out-requires
 unfolding fits
 carry_out-requires c =
-    (c.requires.0, rw (c.grant_action-action.ensures c.args.q.now) (grant-fits _ (valid-of _ c.requires.0) _ c.requires.1))
+    record { mem_value = c.requires.child_value; q_value = rw (c.grant_action-action.ensures c.args.q.now) (grant-fits _ (valid-of _ c.requires.child_value) _ c.requires.q_value) }
 
 pub returns : goal.returns
 returns c =

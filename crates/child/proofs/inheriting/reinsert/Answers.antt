@@ -11,7 +11,7 @@ pub returns-then-is_granted : goal.returns-then-is_granted
 returns-then-is_granted c = skips (entry_in c.args.parent.now c.args.cursor) (sym (ap is_granted c.kind-kind.ensures) ∙ sym c.is_granted.ensures ∙ c.if-is_granted.true)
 
 pub carry_out-requires : goal.carry_out-requires
-carry_out-requires c = (c.requires.1, reinserted-fits c.kind-kind.ensures c.path.ensures (entry_read c.requires.0))
+carry_out-requires c = record { mem_value = c.requires.child_value; q_value = reinserted-fits c.kind-kind.ensures c.path.ensures (entry_read c.requires.reads) }
 
 pub returns : goal.returns
 returns c =

@@ -7,7 +7,7 @@ pub loop-cursor-init : goal.loop-cursor-init
 loop-cursor-init c = inserting-start _ _ c.first-cursor.ensures c.requires.0 c.requires.1
 
 pub reinsert-outcome-requires : goal.reinsert-outcome-requires
-reinsert-outcome-requires c = (inserting-reads c.loop-cursor.invariant (sym c.is_at_entry.ensures ∙ c.loop-cursor-test.true), c.loop-cursor.invariant.child-1)
+reinsert-outcome-requires c = record { reads = inserting-reads c.loop-cursor.invariant (sym c.is_at_entry.ensures ∙ c.loop-cursor-test.true); child_value = c.loop-cursor.invariant.child }
 
 pub shape_of-child-in-Refused : goal.shape_of-child-in-Refused
 shape_of-child-in-Refused c = inserting-same c.loop-cursor.invariant (sym c.is_at_entry.ensures ∙ c.loop-cursor-test.true) c.reinsert-outcome.ensures

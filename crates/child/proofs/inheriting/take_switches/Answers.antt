@@ -10,9 +10,9 @@ child_switches-switches-requires c = c.switches.ensures.1
 
 pub carry_out-requires : goal.carry_out-requires
 unfolding act_of fits
-carry_out-requires c = (c.requires.1, rw c.child_switches-switches.ensures (switches-fit _ _ c.switches.ensures.1))
+carry_out-requires c = record { mem_value = c.requires.1; q_value = rw c.child_switches-switches.ensures (switches-fit _ _ c.switches.ensures.1) }
 
 pub returns : goal.returns
 unfolding act_of
 returns c =
-    switches-taken (table_of c.args.parent.now) (table_of c.args.child-1.now) c.child_switches-switches.ensures c.switches.ensures.0 c.switches-2.ensures.0 (grants-carried c.carry_out.ensures)
+    switches-taken (table_of c.args.parent.now) (table_of c.args.child.now) c.child_switches-switches.ensures c.switches.ensures.0 c.switches-2.ensures.0 (grants-carried c.carry_out.ensures)

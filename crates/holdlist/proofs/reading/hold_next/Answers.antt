@@ -1,0 +1,41 @@
+-- `hold_next` meets its contract: the words that were taken decide what the record is, and the record takes its own.
+use Prim.Native.Nat.{◌*◌}
+use mathlib.Core.Path.{sym}
+use native.Mathlib.Omega.{arith}
+use lib.Seq.{length-take-le}
+use Rattle.input.proofs.WordLaws.{words_left}
+use Rattle.holdlist.specs.Holding.{record_space, standing}
+use Rattle.holdlist.proofs.HoldingLaws.{words_inside, NextRecord, next-record, holds-malformed}
+use Rattle.holdlist.proofs.reading.hold_next.Goals as goal
+
+pub slice_bounds-words-end : goal.slice_bounds-words-end
+slice_bounds-words-end c = words_inside (standing c.args.mem.now c.args.held) c.args.bytes.now c.take_words-count.ensures
+
+pub slice_bounds-read_record-end : goal.slice_bounds-read_record-end
+slice_bounds-read_record-end c =
+    sym (length-take-le _ _ (words_inside (standing c.args.mem.now c.args.held) c.args.bytes.now c.take_words-count.ensures))
+
+-- the record that the words begin with
+pub slice_bounds-words-end-in-Change : goal.slice_bounds-words-end-in-Change
+slice_bounds-words-end-in-Change c =
+    (next-record (standing c.args.mem.now c.args.held) c.args.bytes.now c.take_words-count.ensures c.read_record.ensures c.in-Change.is).few
+
+pub slice_bounds-hold_record-end : goal.slice_bounds-hold_record-end
+slice_bounds-hold_record-end c =
+    let next = next-record (standing c.args.mem.now c.args.held) c.args.bytes.now c.take_words-count.ensures c.read_record.ensures c.in-Change.is in
+    sym (length-take-le _ _ next.few)
+
+pub hold_record-requires : goal.hold_record-requires
+hold_record-requires c =
+    let next = next-record (standing c.args.mem.now c.args.held) c.args.bytes.now c.take_words-count.ensures c.read_record.ensures c.in-Change.is in
+    let left = words_left c.args.bytes.now (4 * c.args.held.words) record_space c.take_words-count.ensures c.requires in
+    omega (arith, length-take-le _ _ next.few, next.inside)
+
+pub returns-in-Malformed : goal.returns-in-Malformed
+returns-in-Malformed c =
+    holds-malformed c.args.held c.args.bytes.now c.take_words-count.ensures c.read_record.ensures c.in-Malformed.is c.stop.ensures
+
+pub returns-in-Change : goal.returns-in-Change
+returns-in-Change c =
+    let next = next-record (standing c.args.mem.now c.args.held) c.args.bytes.now c.take_words-count.ensures c.read_record.ensures c.in-Change.is in
+    rw next.after c.hold_record.ensures

@@ -2,7 +2,7 @@
 use Prim.Native.Nat.{ℕ}
 use mathlib.Core.Path.{◌≡◌, sym, ◌∙◌}
 use mathlib.Core.List.{List}
-use mathlib.Core.Bool.{Bool, true, false}
+use mathlib.Core.Bool.{Bool, false}
 use lib.Seq.{length-take-le}
 use Rattle.paths.specs.Giving.{query_of, is_query}
 use Rattle.paths.proofs.GivingLaws.{gives-refused, gives-stands}

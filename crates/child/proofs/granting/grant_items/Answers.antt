@@ -1,4 +1,3 @@
-use Prim.Native.Nat.{◌-◌}
 use mathlib.Core.Path.{refl, ◌∙◌}
 use native.Mathlib.Omega.{arith}
 use Rattle.items.proofs.ItemListLaws.{closing-next}
@@ -10,6 +9,9 @@ loop-i-init c = let pre = c.requires in sent-start _ _ _ _ _ _ _ _ _ pre.0 pre.1
 
 pub overflow_cast-end : goal.overflow_cast-end
 overflow_cast-end c = omega (arith, c.type_inv.ends c.loop-i.i)
+
+pub slice_bounds-grant_item-count : goal.slice_bounds-grant_item-count
+slice_bounds-grant_item-count c = let lies = closing-next _ _ _ _ c.loop-i-test.true c.loop-i.invariant.items.closes in omega arith
 
 pub slice_bounds-grant_item-start : goal.slice_bounds-grant_item-start
 slice_bounds-grant_item-start c =

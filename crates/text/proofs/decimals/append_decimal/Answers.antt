@@ -1,9 +1,7 @@
 -- `append_decimal` meets its contract.
-use Prim.Native.Nat.{◌≤◌}
 use mathlib.Core.Path.{◌≡◌, ap, ◌∙◌}
 use native.Mathlib.Omega.{arith}
 use lib.ListN.{length}
-use Rattle.std.specs.Fmt.{decimal as shown}
 use Rattle.text.specs.Text.{decimal}
 use Rattle.text.proofs.DecimalLaws.{decimal-few, decimal-shown}
 use Rattle.text.proofs.PieceLaws.{decimal-written}

@@ -1,4 +1,3 @@
-use Prim.Native.Nat.{◌-◌}
 use native.Mathlib.Omega.{arith}
 use Rattle.text.proofs.EscapeLaws.{escaping-start, escaping-more, escaping-end}
 use Rattle.text.proofs.escaping.escape.Goals as goal

@@ -1,8 +1,7 @@
 use mathlib.Core.Path.{sym, ap, ◌∙◌}
-use native.Mathlib.Omega.{arith}
 use lib.ListN.{length}
 use Rattle.table.proofs.ReadingLaws.{fewer-left}
-use Rattle.images.proofs.WritingLaws.{path-fits, counting-start, counting-reads, counting-next, counting-fits, counting-done}
+use Rattle.images.proofs.WritingLaws.{path-fits, counting-start, counting-reads, counting-next, counting-done}
 use Rattle.images.proofs.writing.image_size.Goals as goal
 
 pub loop-cursor-init : goal.loop-cursor-init

@@ -3,7 +3,7 @@ use Prim.Native.Nat.{◌≤◌}
 use native.Mathlib.Omega.{arith}
 use lib.ListN.{length, drop, length-drop}
 use Rattle.records.specs.Steps.{words_for}
-use Rattle.records.proofs.ReadingLaws.{path-cut, work-spells, size_is, path-refused, path-taken}
+use Rattle.records.proofs.ReadingLaws.{path-cut, work-spells, path-refused, path-taken}
 use Rattle.records.proofs.reading.read_path_of.Goals as goal
 
 pub returns-then-left-count : goal.returns-then-left-count

@@ -1,8 +1,7 @@
 use native.Mathlib.Omega.{arith}
-use Prim.Native.Nat.{◌-◌, ◌*◌}
-use mathlib.Core.Path.{◌≡◌, refl, ap, ◌∙◌}
+use Prim.Native.Nat.{◌*◌}
+use mathlib.Core.Path.{◌≡◌, ap, ◌∙◌}
 use lib.ListN.{length, take, drop, length-set}
-use lib.Seq.{paste-zero}
 use Rattle.paths.proofs.CopyLaws.{paste-whole}
 use Rattle.records.specs.Records.{first, second, third}
 use Rattle.records.specs.Steps.{word_bytes}

@@ -1,7 +1,6 @@
 -- `write_alone` meets its contract: its two stores are one sequence of words.
 use mathlib.Core.Path.{refl}
 use native.Mathlib.Omega.{arith}
-use lib.ListN.{length-set}
 use Rattle.records.proofs.WritingLaws.{two-stores}
 use Rattle.records.proofs.writing.write_alone.Goals as goal
 

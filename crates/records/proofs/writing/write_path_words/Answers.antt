@@ -1,8 +1,6 @@
 use native.Mathlib.Omega.{arith}
-use Prim.Native.Nat.{◌-◌}
-use mathlib.Core.Path.{◌≡◌, refl, ◌∙◌}
+use mathlib.Core.Path.{◌≡◌, ◌∙◌}
 use lib.ListN.{length, length-set}
-use lib.Seq.{paste-zero}
 use Rattle.paths.proofs.CopyLaws.{paste_more, paste-whole}
 use Rattle.records.specs.Records.{path_words}
 use Rattle.records.proofs.RecordLaws.{path-count}

@@ -3,7 +3,6 @@ use Prim.Native.Nat.{ℕ}
 use mathlib.Core.Path.{ap, ◌∙◌}
 use native.Mathlib.Omega.{arith}
 use Rattle.records.specs.Records.{head_word}
-use Rattle.records.proofs.RecordLaws.{insert-few}
 use Rattle.table.proofs.Overwrites.{appends-none, appends-as}
 use Rattle.records.proofs.WritingLaws.{no_words, insert-words, switches-words, revoke-words, revoke-all-words, insert-short, revoke-short}
 use Rattle.records.proofs.writing.write_record.Goals as goal

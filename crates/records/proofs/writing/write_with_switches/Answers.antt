@@ -1,7 +1,6 @@
 -- `write_with_switches` meets its contract: its three stores are one sequence of words.
 use mathlib.Core.Path.{refl}
 use native.Mathlib.Omega.{arith}
-use lib.ListN.{length-set}
 use Rattle.records.proofs.WritingLaws.{three-stores}
 use Rattle.records.proofs.writing.write_with_switches.Goals as goal
 

@@ -1,10 +1,7 @@
 -- `take_record` meets its contract: the first cause is found, or the change that was read is taken.
-use mathlib.Core.Path.{◌≡◌, sym, ◌∙◌}
-use mathlib.Core.Bool.{true, false}
+use mathlib.Core.Path.{sym, ◌∙◌}
 use native.Mathlib.Omega.{arith}
 use lib.Seq.{length-take-le}
-use Rattle.table.specs.Memory.{holds}
-use Rattle.standby.specs.Arriving.{conflict}
 use Rattle.standby.proofs.ArrivingLaws.{arrival-no-table, arrival-conflict, arrival-malformed, reads_none, reads-change, reads_more, comes-refused, comes-taken}
 use Rattle.standby.proofs.arriving.take_record.Goals as goal
 

@@ -1,11 +1,7 @@
 -- `take_image` meets its contract: the first cause is found, or the image that was read is taken or is a repeat.
-use mathlib.Core.Path.{◌≡◌, sym, ◌∙◌}
-use mathlib.Core.Bool.{true, false}
-use Rattle.table.specs.Memory.{holds}
+use mathlib.Core.Path.{sym, ◌∙◌}
 use Rattle.table.proofs.Puts.{long_of}
-use Rattle.images.specs.Images.{read_image}
-use Rattle.images.proofs.ReadingLaws.{no-image-told, ImageTold, image-told}
-use Rattle.standby.specs.Arriving.{conflict}
+use Rattle.images.proofs.ReadingLaws.{no-image-told, image-told}
 use Rattle.standby.proofs.ArrivingLaws.{comes-refused}
 use Rattle.standby.proofs.LoadingLaws.{loading-no-table, loading-conflict, loading-malformed, loads-repeat, loads-taken}
 use Rattle.standby.proofs.loading.take_image.Goals as goal

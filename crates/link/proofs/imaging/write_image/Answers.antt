@@ -1,9 +1,6 @@
 -- `write_image` meets its contract, at each way out.
-use mathlib.Core.Path.{◌≡◌, sym, ◌∙◌}
-use mathlib.Core.Bool.{true}
+use mathlib.Core.Path.{sym, ◌∙◌}
 use native.Mathlib.Omega.{arith}
-use Rattle.table.specs.Memory.{holds}
-use Rattle.records.specs.Numbers.{is_run}
 use Rattle.records.proofs.RecordLaws.{run-few}
 use Rattle.link.proofs.ImagingLaws.{image-no-table, image-no-space, image-no-run, image-used-up, image-done}
 use Rattle.link.proofs.imaging.write_image.Goals as goal

@@ -24,7 +24,6 @@ use Rattle.walk.specs.declared.AllowPartial.{AllowPartial}
 use Rattle.walk.specs.declared.AllowPartial.TheVariants.{TreatAsDenied, TreatAsPartialGranted, TreatAsGranted}
 use Rattle.walk.specs.declared.PermissionState.{PermissionState}
 use Rattle.walk.specs.declared.Met.{Met}
-use Rattle.walk.specs.declared.FirstMatch.{FirstMatch}
 use Rattle.walk.specs.declared.FirstMatch.TheVariants.{Nothing, Match}
 use Rattle.walk.specs.declared.Seen.{Seen}
 use Rattle.walk.specs.Walk.{matches_kind, matches, first_match, is_flag, is_flag_below, is_partial, allowed, decided_by, without_match, by_match, query_desc}

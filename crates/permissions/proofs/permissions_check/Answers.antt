@@ -4,4 +4,4 @@ use Rattle.table.proofs.ComparisonLaws.{read_back}
 use Rattle.permissions.proofs.permissions_check.Goals as goal
 
 pub returns : goal.returns
-returns c = rw (read_back w32 _ c.asked_plainly.type-inv) c.asked_plainly.ensures
+returns c = rw (read_back w32 _ c.asked_plainly.type_inv) c.asked_plainly.ensures

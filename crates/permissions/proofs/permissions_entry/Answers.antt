@@ -8,7 +8,7 @@ use Rattle.permissions.proofs.permissions_entry.Goals as goal
 
 pub returns-then-not-holds_table : goal.returns-then-not-holds_table
 returns-then-not-holds_table c =
-    entry-none _ _ (sym c.holds_table.ensures ∙ not-true _ c.if-not-holds_table.true) c.tell_listed.ensures (read_back w32 _ c.refused.type-inv ∙ c.refused.ensures)
+    entry-none _ _ (sym c.holds_table.ensures ∙ not-true _ c.if-not-holds_table.true) c.tell_listed.ensures (read_back w32 _ c.refused.type_inv ∙ c.refused.ensures)
 
 pub entry_at-requires : goal.entry_at-requires
 entry_at-requires c = sym c.holds_table.ensures ∙ not-false _ c.if-not-holds_table.false
@@ -16,4 +16,4 @@ entry_at-requires c = sym c.holds_table.ensures ∙ not-false _ c.if-not-holds_t
 pub returns : goal.returns
 returns c =
     entry-some _ _ (sym c.holds_table.ensures ∙ not-false _ c.if-not-holds_table.false) c.entry_at.ensures
-    (rw (read_back w32 _ c.tell_listed-2.type-inv) c.tell_listed-2.ensures)
+    (rw (read_back w32 _ c.tell_listed-2.type_inv) c.tell_listed-2.ensures)

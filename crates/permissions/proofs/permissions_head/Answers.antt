@@ -7,7 +7,7 @@ use Rattle.results.proofs.ExportLaws.{head-none, head-some}
 use Rattle.permissions.proofs.permissions_head.Goals as goal
 
 pub returns-then-not-holds_table : goal.returns-then-not-holds_table
-returns-then-not-holds_table c = head-none _ (sym c.holds_table.ensures ∙ not-true _ c.if-not-holds_table.true) (read_back w32 _ c.refused.type-inv ∙ c.refused.ensures)
+returns-then-not-holds_table c = head-none _ (sym c.holds_table.ensures ∙ not-true _ c.if-not-holds_table.true) (read_back w32 _ c.refused.type_inv ∙ c.refused.ensures)
 
 pub count-requires : goal.count-requires
 count-requires c = sym c.holds_table.ensures ∙ not-false _ c.if-not-holds_table.false

@@ -6,4 +6,4 @@ use Rattle.results.proofs.PlainLaws.{insert-plainly}
 use Rattle.permissions.proofs.permissions_insert.Goals as goal
 
 pub returns : goal.returns
-returns c = insert-plainly _ _ _ _ c.insert-sent.ensures (read_back w32 _ c.outcome_number.type-inv ∙ c.outcome_number.ensures)
+returns c = insert-plainly _ _ _ _ c.insert-sent.ensures (read_back w32 _ c.outcome_number.type_inv ∙ c.outcome_number.ensures)

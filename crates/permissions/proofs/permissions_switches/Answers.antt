@@ -6,4 +6,4 @@ use Rattle.results.proofs.PlainLaws.{switches-plainly}
 use Rattle.permissions.proofs.permissions_switches.Goals as goal
 
 pub returns : goal.returns
-returns c = switches-plainly _ _ c.set_switches-sent.ensures (read_back w32 _ c.outcome_number.type-inv ∙ c.outcome_number.ensures)
+returns c = switches-plainly _ _ c.set_switches-sent.ensures (read_back w32 _ c.outcome_number.type_inv ∙ c.outcome_number.ensures)

@@ -9,7 +9,7 @@ use Rattle.results.proofs.ExportLaws.{used-none, used-some}
 use Rattle.permissions.proofs.permissions_used.Goals as goal
 
 pub returns-then-not-holds_table : goal.returns-then-not-holds_table
-returns-then-not-holds_table c = read_back w32 _ c.refused.type-inv ∙ c.refused.ensures ∙ used-none _ (sym c.holds_table.ensures ∙ not-true _ c.if-not-holds_table.true)
+returns-then-not-holds_table c = read_back w32 _ c.refused.type_inv ∙ c.refused.ensures ∙ used-none _ (sym c.holds_table.ensures ∙ not-true _ c.if-not-holds_table.true)
 
 pub used-requires : goal.used-requires
 used-requires c = sym c.holds_table.ensures ∙ not-false _ c.if-not-holds_table.false

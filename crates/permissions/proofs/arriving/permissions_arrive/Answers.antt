@@ -7,4 +7,4 @@ use Rattle.permissions.proofs.arriving.permissions_arrive.Goals as goal
 pub returns : goal.returns
 returns c =
     let made = c.take_record-arrived in
-    record { answered = made.result.answer; promise = made.ensures; number = read_back w32 _ c.arrival_number.type-inv ∙ c.arrival_number.ensures }
+    record { answered = made.result.answer; promise = made.ensures; number = read_back w32 _ c.arrival_number.type_inv ∙ c.arrival_number.ensures }

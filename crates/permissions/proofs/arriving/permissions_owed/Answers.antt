@@ -18,6 +18,6 @@ returns-in-Refused c =
     record {
       answered = owed.result;
       promise = owed.ensures;
-      number = read_back w32 _ c.refused.type-inv ∙ c.refused.ensures ∙ sym (ap owed_number is);
+      number = read_back w32 _ c.refused.type_inv ∙ c.refused.ensures ∙ sym (ap owed_number is);
       count = sym (ap owed_count is);
     }

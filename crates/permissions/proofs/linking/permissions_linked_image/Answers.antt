@@ -7,4 +7,4 @@ use Rattle.permissions.proofs.linking.permissions_linked_image.Goals as goal
 pub returns : goal.returns
 returns c =
     let made = c.write_image-sent in
-    record { answered = made.result; promise = made.ensures; number = read_back w32 _ c.outcome_number.type-inv ∙ c.outcome_number.ensures; words = refl }
+    record { answered = made.result; promise = made.ensures; number = read_back w32 _ c.outcome_number.type_inv ∙ c.outcome_number.ensures; words = refl }

@@ -4,4 +4,4 @@ use Rattle.table.proofs.ComparisonLaws.{read_back}
 use Rattle.permissions.proofs.linking.permissions_linked_request_all.Goals as goal
 
 pub returns : goal.returns
-returns c = rw (read_back w32 _ c.asked.type-inv) c.asked.ensures
+returns c = rw (read_back w32 _ c.asked.type_inv) c.asked.ensures

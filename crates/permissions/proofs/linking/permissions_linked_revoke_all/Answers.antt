@@ -4,4 +4,4 @@ use Rattle.table.proofs.ComparisonLaws.{read_back}
 use Rattle.permissions.proofs.linking.permissions_linked_revoke_all.Goals as goal
 
 pub returns : goal.returns
-returns c = rw (read_back w32 _ c.revoked.type-inv) c.revoked.ensures
+returns c = rw (read_back w32 _ c.revoked.type_inv) c.revoked.ensures

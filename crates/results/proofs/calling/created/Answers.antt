@@ -10,4 +10,4 @@ pub overflow_cast-told : goal.overflow_cast-told
 overflow_cast-told c = omega (arith, asked-few c.create_child_permissions-sent.ensures)
 
 pub returns : goal.returns
-returns c = record { answered = c.create_child_permissions-sent.result; promise = c.create_child_permissions-sent.ensures; number = read_back w32 _ c.outcome_number.type-inv ∙ c.outcome_number.ensures; asked = refl; words = refl }
+returns c = record { answered = c.create_child_permissions-sent.result; promise = c.create_child_permissions-sent.ensures; number = read_back w32 _ c.outcome_number.type_inv ∙ c.outcome_number.ensures; asked = refl; words = refl }

@@ -5,4 +5,4 @@ use Rattle.results.proofs.PlainLaws.{revoke-plainly}
 use Rattle.results.proofs.calling.revoked_plainly.Goals as goal
 
 pub returns : goal.returns
-returns c = rw (read_back w32 _ c.revoked.type-inv) (revoke-plainly c.revoked.ensures)
+returns c = rw (read_back w32 _ c.revoked.type_inv) (revoke-plainly c.revoked.ensures)

@@ -11,4 +11,4 @@ pub returns-in-State : goal.returns-in-State
 returns-in-State c = rw (c.in-State.is, ← c.state_number.ensures) (to_z_pos w32 (omega arith))
 
 pub returns-in-Refused : goal.returns-in-Refused
-returns-in-Refused c = read_back w32 _ c.refused.type-inv ∙ c.refused.ensures ∙ sym (ap answer_number c.in-Refused.is)
+returns-in-Refused c = read_back w32 _ c.refused.type_inv ∙ c.refused.ensures ∙ sym (ap answer_number c.in-Refused.is)

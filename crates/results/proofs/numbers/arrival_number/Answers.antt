@@ -18,4 +18,4 @@ pub returns-in-Taken : goal.returns-in-Taken
 returns-in-Taken c = sym (ap arrival_number c.in-Taken.is)
 
 pub returns-in-Refused : goal.returns-in-Refused
-returns-in-Refused c = read_back w32 _ c.refused.type-inv ∙ c.refused.ensures ∙ sym (ap arrival_number c.in-Refused.is)
+returns-in-Refused c = read_back w32 _ c.refused.type_inv ∙ c.refused.ensures ∙ sym (ap arrival_number c.in-Refused.is)

@@ -11,4 +11,4 @@ pub returns-in-Comparison : goal.returns-in-Comparison
 returns-in-Comparison c = rw (c.in-Comparison.is, ← c.relation_number.ensures) (to_z_pos w32 (omega arith))
 
 pub returns-in-Refused : goal.returns-in-Refused
-returns-in-Refused c = read_back w32 _ c.refused.type-inv ∙ c.refused.ensures ∙ sym (ap compared_number c.in-Refused.is)
+returns-in-Refused c = read_back w32 _ c.refused.type_inv ∙ c.refused.ensures ∙ sym (ap compared_number c.in-Refused.is)

@@ -9,4 +9,4 @@ pub returns-in-Done : goal.returns-in-Done
 returns-in-Done c = sym (ap outcome_number c.in-Done.is)
 
 pub returns-in-Refused : goal.returns-in-Refused
-returns-in-Refused c = read_back w32 _ c.refused.type-inv ∙ c.refused.ensures ∙ sym (ap outcome_number c.in-Refused.is)
+returns-in-Refused c = read_back w32 _ c.refused.type_inv ∙ c.refused.ensures ∙ sym (ap outcome_number c.in-Refused.is)

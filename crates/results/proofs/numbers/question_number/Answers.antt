@@ -12,4 +12,4 @@ pub returns-in-AsksNothing : goal.returns-in-AsksNothing
 returns-in-AsksNothing c = sym (ap question_number c.in-AsksNothing.is)
 
 pub returns-in-Refused : goal.returns-in-Refused
-returns-in-Refused c = read_back w32 _ c.refused.type-inv ∙ c.refused.ensures ∙ sym (ap question_number c.in-Refused.is)
+returns-in-Refused c = read_back w32 _ c.refused.type_inv ∙ c.refused.ensures ∙ sym (ap question_number c.in-Refused.is)

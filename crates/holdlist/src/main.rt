@@ -8,11 +8,11 @@ ghost use Rattle.holdlist.specs.Input.{HoldsInput};
 
 use input::parts::{keep_rest, read_after};
 use input::{Came, READS};
-use libc::{STDERR_FILENO, STDOUT_FILENO};
 use printing::{LISTING_BYTES, write_listing};
 use reading::hold_on;
 use records::RECORD_WORDS;
 use standby::Numbers;
+use std::io::{Read, Write};
 use table::TABLE_BYTES;
 use table::acting::make_fresh;
 
@@ -21,6 +21,9 @@ mod reading;
 
 // One byte less than the longest record has: where no more bytes than these are left, the record there may go on in the next part of the input.
 const KEPT_BYTES: usize = 4 * RECORD_WORDS - 1;
+
+// As much as is read at once.
+const BUFFER_BYTES: usize = 65_536;
 
 // What was held of the input so far: the standby's numbers, the words taken, and whether reading stopped after them.
 #[derive(Clone, Copy)]
@@ -37,8 +40,8 @@ enum Input {
     Unreadable,
 }
 
-// Holds all of standard input, part by part.
-fn hold_input(mem: &mut [u8], buffer: &mut [u8]) -> Input
+// Holds all that a reader brings, part by part.
+fn hold_input<R: Read>(reader: &mut R, mem: &mut [u8], buffer: &mut [u8]) -> Input
     requires { length buffer.old ≡ buffer_bytes }
     ensures { HoldsInput mem.old mem.new result }
 {
@@ -55,7 +58,7 @@ fn hold_input(mem: &mut [u8], buffer: &mut [u8]) -> Input
     let mut left: usize = 0;
     let mut turns = READS;
     while turns > 0 && !held.stopped {
-        let Came::Bytes(more) = read_after(buffer, left) else {
+        let Came::Bytes(more) = read_after(reader, buffer, left) else {
             return Input::Unreadable;
         };
         if more == 0 {
@@ -70,22 +73,23 @@ fn hold_input(mem: &mut [u8], buffer: &mut [u8]) -> Input
     Input::Held(hold_on(mem, held, &buffer[..left], 0))
 }
 
-fn main() {
+fn main(rt: HostRuntime) {
     let mut mem = [0u8; TABLE_BYTES];
     make_fresh(&mut mem);
-    let mut buffer = io::large_buffer();
-    match hold_input(&mut mem, &mut buffer) {
+    let mut buffer = [0u8; BUFFER_BYTES];
+    match hold_input(&mut rt.stdin(), &mut mem, &mut buffer) {
         Input::Unreadable => {
-            io::write_all(STDERR_FILENO, b"holdlist: standard input cannot be read\n");
+            let _ = rt
+                .stderr()
+                .write_all(b"holdlist: standard input cannot be read\n");
         }
         Input::Held(held) => {
             let mut space = [0u8; LISTING_BYTES];
             let n = write_listing(&mut space, &mem, held);
-            if !io::write_all(STDOUT_FILENO, &space[..n]) {
-                io::write_all(
-                    STDERR_FILENO,
-                    b"holdlist: standard output cannot be written\n",
-                );
+            if rt.stdout().write_all(&space[..n]).is_err() {
+                let _ = rt
+                    .stderr()
+                    .write_all(b"holdlist: standard output cannot be written\n");
             }
         }
     }

@@ -1,0 +1,14 @@
+-- `main` is safe and ends: what it prints is a table that memory holds.
+use native.Mathlib.Omega.{arith}
+use Rattle.table.proofs.Overwrites.{starts-inside}
+use Rattle.standby.proofs.ArrivingLaws.{no-conflict}
+use Rattle.holdlist.proofs.KeepLaws.{input-kept}
+use Rattle.holdlist.proofs.main.Goals as goal
+
+pub write_listing-n-requires : goal.write_listing-n-requires
+write_listing-n-requires c =
+    let kept = input-kept (omega arith) c.make_fresh.ensures c.hold_input.ensures c.in-Held.is in
+    (kept.holding, no-conflict _ kept.agreeing, omega arith)
+
+pub slice_bounds-space-end : goal.slice_bounds-space-end
+slice_bounds-space-end c = starts-inside c.write_listing-n.ensures

@@ -51,7 +51,7 @@ fn hold_arrived(held: Held, count: usize, numbers: Numbers, answer: Arrival) -> 
     }
 }
 
-// The record that the words are arrives at the numbers held, which are lent for it. Its proof is a walk by hand.
+// The record that the words are arrives at the numbers held, which are lent for it.
 fn hold_record(mem: &mut [u8], held: Held, words: &[u32]) -> Held
     requires { held.words + length words.now < 2 ^ 64 }
     ensures { Holds (after_arrival (arrival mem.old words.now held.numbers) (length words.now) (standing mem.old held)) mem.new result }

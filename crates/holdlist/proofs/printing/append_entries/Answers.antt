@@ -6,7 +6,7 @@ use Rattle.holdlist.proofs.LineLaws.{lining-start, lining-end, lining-reads, lin
 use Rattle.holdlist.proofs.printing.append_entries.Goals as goal
 
 pub loop-cursor-init : goal.loop-cursor-init
-loop-cursor-init c = lining-start _ _ _ c.first-cursor.ensures c.requires.0 c.requires.1
+loop-cursor-init c = lining-start _ _ _ c.first-cursor.ensures c.requires.mem_value c.requires.mem_in_bounds
 
 pub kind-kind-requires : goal.kind-kind-requires
 kind-kind-requires c = lining-reads c.loop-cursor.invariant (sym c.is_at_entry.ensures ∙ c.loop-cursor-test.true)

@@ -8,7 +8,10 @@ use Rattle.holdlist.proofs.printing.write_listing.Goals as goal
 pub append_entries-end-requires : goal.append_entries-end-requires
 append_entries-end-requires c =
     let mem = c.args.mem.now in
-    (c.requires.0, omega (arith, c.requires.2, header-end (table_of mem) _ c.write_header-from.ensures, entries-room mem c.requires.0))
+    record {
+      mem_value = c.requires.0;
+      mem_in_bounds = omega (arith, c.requires.2, header-end (table_of mem) _ c.write_header-from.ensures, entries-room mem c.requires.0);
+    }
 
 pub append_stopped-requires : goal.append_stopped-requires
 append_stopped-requires c =

@@ -1,5 +1,7 @@
 -- `main` is safe and ends: what it prints is a table that memory holds.
+use mathlib.Core.Path.{sym}
 use native.Mathlib.Omega.{arith}
+use lib.Seq.{length-take-le}
 use Rattle.table.proofs.Overwrites.{starts-inside}
 use Rattle.standby.proofs.ArrivingLaws.{no-conflict}
 use Rattle.holdlist.proofs.KeepLaws.{input-kept}
@@ -12,3 +14,6 @@ write_listing-n-requires c =
 
 pub slice_bounds-space-end : goal.slice_bounds-space-end
 slice_bounds-space-end c = starts-inside c.write_listing-n.ensures
+
+pub slice_bounds-write_all-end-in-Held : goal.slice_bounds-write_all-end-in-Held
+slice_bounds-write_all-end-in-Held c = sym (length-take-le _ _ (starts-inside c.write_listing-n.ensures))

@@ -1,5 +1,5 @@
 use native.Mathlib.Omega.{arith}
-use borrow.Author.Tests.{ltb-true, ltb-false, not-true, not-false}
+use borrow.Author.Tests.{not-true, not-false}
 use Rattle.holdlist.proofs.HoldingLaws.{going_start, going_less, going_next, going-stopped, going-kept}
 use Rattle.holdlist.proofs.reading.hold.Goals as goal
 
@@ -17,17 +17,17 @@ hold_next-held-requires c = c.loop-held.invariant.inside
 
 pub loop-held-smaller : goal.loop-held-smaller
 loop-held-smaller c =
-    going_less c.loop-held.invariant (not-true _ c.loop-held-test.true) (ltb-true _ _ c.if-bytes-held.true) c.hold_next-held.ensures
+    going_less c.loop-held.invariant (not-true _ c.loop-held-test.true) c.if-bytes-held.true c.hold_next-held.ensures
 
 pub loop-held-preserved : goal.loop-held-preserved
 loop-held-preserved c =
-    going_next c.loop-held.invariant (not-true _ c.loop-held-test.true) (ltb-true _ _ c.if-bytes-held.true) c.hold_next-held.ensures c.mem-1.given
+    going_next c.loop-held.invariant (not-true _ c.loop-held-test.true) c.if-bytes-held.true c.hold_next-held.ensures c.hold_next-held.auto.mem
 
 pub shape_of-mem-else-bytes-held : goal.shape_of-mem-else-bytes-held
 shape_of-mem-else-bytes-held c = c.loop-held.invariant.same
 
 pub returns-else-bytes-held : goal.returns-else-bytes-held
-returns-else-bytes-held c = going-kept c.loop-held.invariant (ltb-false _ _ c.if-bytes-held.false)
+returns-else-bytes-held c = going-kept c.loop-held.invariant c.if-bytes-held.false
 
 pub shape_of-mem-after-loop-held : goal.shape_of-mem-after-loop-held
 shape_of-mem-after-loop-held c = c.loop-held.invariant.same

@@ -8,40 +8,34 @@ use Rattle.holdlist.specs.Holding.{record_space, standing}
 use Rattle.holdlist.proofs.HoldingLaws.{words_inside, NextRecord, next-record, holds-malformed}
 use Rattle.holdlist.proofs.reading.hold_next.Goals as goal
 
--- the record that the words begin with
-next : (c : goal.In-Change-2)
-    → let a = c.args in
-    NextRecord (standing a.mem-1.now a.held) a.bytes.now c.take_words-count.new.1.1.0 c.take_words-count.result c.in-Change.end-1
-next c =
-    let a = c.args in
-    next-record (standing a.mem-1.now a.held) a.bytes.now c.take_words-count.ensures c.read_record.ensures c.in-Change.is
-
 pub slice_bounds-words-end : goal.slice_bounds-words-end
-slice_bounds-words-end c =
-    let a = c.args in
-    words_inside (standing a.mem-1.now a.held) a.bytes.now c.take_words-count.ensures
+slice_bounds-words-end c = words_inside (standing c.args.mem.now c.args.held) c.args.bytes.now c.take_words-count.ensures
 
 pub slice_bounds-read_record-end : goal.slice_bounds-read_record-end
-slice_bounds-read_record-end c = sym (length-take-le _ _ (slice_bounds-words-end c))
+slice_bounds-read_record-end c =
+    sym (length-take-le _ _ (words_inside (standing c.args.mem.now c.args.held) c.args.bytes.now c.take_words-count.ensures))
 
+-- the record that the words begin with
 pub slice_bounds-words-end-in-Change : goal.slice_bounds-words-end-in-Change
-slice_bounds-words-end-in-Change c = (next c).few
+slice_bounds-words-end-in-Change c =
+    (next-record (standing c.args.mem.now c.args.held) c.args.bytes.now c.take_words-count.ensures c.read_record.ensures c.in-Change.is).few
 
 pub slice_bounds-hold_record-end : goal.slice_bounds-hold_record-end
-slice_bounds-hold_record-end c = sym (length-take-le _ _ (slice_bounds-words-end-in-Change c))
+slice_bounds-hold_record-end c =
+    let next = next-record (standing c.args.mem.now c.args.held) c.args.bytes.now c.take_words-count.ensures c.read_record.ensures c.in-Change.is in
+    sym (length-take-le _ _ next.few)
 
 pub hold_record-requires : goal.hold_record-requires
 hold_record-requires c =
-    let a = c.args in
-    let good = c.well-formed in
-    let left = words_left a.bytes.now (4 * a.held.words-1) record_space c.take_words-count.ensures c.requires in
-    omega (arith, slice_bounds-hold_record-end c, (next c).inside)
+    let next = next-record (standing c.args.mem.now c.args.held) c.args.bytes.now c.take_words-count.ensures c.read_record.ensures c.in-Change.is in
+    let left = words_left c.args.bytes.now (4 * c.args.held.words) record_space c.take_words-count.ensures c.requires in
+    omega (arith, length-take-le _ _ next.few, next.inside)
 
 pub returns-in-Malformed : goal.returns-in-Malformed
 returns-in-Malformed c =
-    let a = c.args in
-    holds-malformed a.held a.bytes.now c.take_words-count.ensures c.read_record.ensures c.in-Malformed.is c.stop.ensures
+    holds-malformed c.args.held c.args.bytes.now c.take_words-count.ensures c.read_record.ensures c.in-Malformed.is c.stop.ensures
 
 pub returns-in-Change : goal.returns-in-Change
 returns-in-Change c =
-    rw (next c).after c.hold_record.ensures
+    let next = next-record (standing c.args.mem.now c.args.held) c.args.bytes.now c.take_words-count.ensures c.read_record.ensures c.in-Change.is in
+    rw next.after c.hold_record.ensures

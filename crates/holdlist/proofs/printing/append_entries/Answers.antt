@@ -28,7 +28,7 @@ loop-cursor-smaller c = rw c.advance-cursor.ensures (fewer-left _ _ (sym c.is_at
 pub loop-cursor-preserved : goal.loop-cursor-preserved
 loop-cursor-preserved c =
     lining-next c.loop-cursor.invariant (sym c.is_at_entry.ensures ∙ c.loop-cursor-test.true) c.append_entry-end.ensures c.kind-kind.ensures c.path.ensures
-    c.advance-cursor.ensures c.space-1.given
+    c.advance-cursor.ensures c.append_entry-end.auto.space
 
 pub shape_of-space : goal.shape_of-space
 shape_of-space c = c.loop-cursor.invariant.same

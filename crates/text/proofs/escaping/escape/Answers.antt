@@ -20,7 +20,7 @@ loop-i-smaller c = omega arith
 
 pub loop-i-preserved : goal.loop-i-preserved
 loop-i-preserved c =
-    escaping-more c.loop-i.invariant (omega arith) c.append_byte-end.ensures c.space-1.given
+    escaping-more c.loop-i.invariant (omega arith) c.append_byte-end.ensures c.append_byte-end.auto.space
 
 pub shape_of-space : goal.shape_of-space
 shape_of-space c = c.loop-i.invariant.same

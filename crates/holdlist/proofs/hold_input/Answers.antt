@@ -56,7 +56,7 @@ keep_rest-left-requires g c =
 pub loop-turns-preserved : goal.loop-turns-preserved
 loop-turns-preserved g c =
     part-next c.loop-turns.invariant (not-true _ c.if-not-held.true) c.read_after.ensures c.read_after.auto.buffer c.in-Bytes.is
-    c.hold_on-next.ensures c.hold_on-next.auto.mem c.keep_rest-left.ensures c.keep_rest-left.auto.buffer refl c.loop-turns-test.true
+    c.hold_on-next.ensures c.hold_on-next.auto.mem c.keep_rest-left.ensures c.keep_rest-left.auto.buffer refl (omega arith)
 
 -- the ways out of the loop: the buffer's first bytes are the same
 pub slice_bounds-hold_on-end-2 : goal.slice_bounds-hold_on-end-2

@@ -14,7 +14,7 @@ pub loop-turns-init : goal.loop-turns-init
 loop-turns-init g c = part-start _ _ _ (omega arith) c.requires
 
 pub read_after-requires : goal.read_after-requires
-read_after-requires g c = omega (arith, c.loop-turns.invariant.buffered.inside)
+read_after-requires g c = c.loop-turns.invariant.buffered.inside
 
 pub shape_of-mem-in_default : goal.shape_of-mem-in_default
 shape_of-mem-in_default g c = c.loop-turns.invariant.same
@@ -51,7 +51,7 @@ overflow_mul-next g c =
 pub keep_rest-left-requires : goal.keep_rest-left-requires
 keep_rest-left-requires g c =
     let grown = taken-inside c.loop-turns.invariant (not-true _ c.if-not-held.true) c.read_after.ensures c.read_after.auto.buffer c.in-Bytes.is c.hold_on-next.ensures in
-    (omega (arith, grown.1), came-inside c.loop-turns.invariant.buffered c.read_after.ensures c.read_after.auto.buffer c.in-Bytes.is)
+    (grown.1, came-inside c.loop-turns.invariant.buffered c.read_after.ensures c.read_after.auto.buffer c.in-Bytes.is)
 
 pub loop-turns-preserved : goal.loop-turns-preserved
 loop-turns-preserved g c =

@@ -1,4 +1,4 @@
-// Standard input, part by part: what a turn of a loop over it does whoever takes its bytes, and the words in bytes. The definitions are in
+// Input, part by part: what a turn of a loop over it does whoever takes its bytes, and the words in bytes. The definitions are in
 // specs/.
 #![tactic(auto)]
 

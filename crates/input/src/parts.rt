@@ -1,4 +1,4 @@
-// A turn of a loop over standard input: one read after the bytes that are left, and, once some are taken, what is left of them to the buffer's
+// A turn of a loop over input: one read after the bytes that are left, and, once some are taken, what is left of them to the buffer's
 // front.
 ghost use Rattle.std.specs.Prelude.{◌≤◌, length};
 ghost use Rattle.input.specs.Parts.{ReadsAfter, KeepsRest};

@@ -12,17 +12,19 @@ import sys
 
 CAMEL = re.compile(r"(?<=[a-z0-9])([A-Z])")
 DECLARED = re.compile(r"^\s*(?:abbrev |unfoldable |inline )*(?:pub )?(?:data |record )?([a-z][\w'-]*) :", re.M)
-# Laws that port.py gave the name of the definition that they are about: by the rule, they end in _lem.
-LAWS = {
-    "crates/handover/specs/Wrong.antt": ("takes_none", "says_nothing"),
-    "crates/handover/proofs/Wrong.antt": ("takes_none", "says_nothing"),
-    "crates/holdlist/proofs/KeepLaws.antt": ("after_next",),
-    "crates/images/proofs/WrittenLaws.antt": ("number_word",),
-    "crates/images/proofs/ImageLaws.antt": ("number_word",),
-    "crates/operator/proofs/ActLaws.antt": ("open_by",),
-    "crates/operator/proofs/OpenLaws.antt": ("open_by",),
-    "crates/records/proofs/WrittenLaws.antt": ("ended_by",),
+# Names by file that the rule alone would make those of a definition: a law ends in _lem, and two fields keep their dash.
+NAMES = {
+    "crates/handover/specs/Wrong.antt": {"takes_none": "takes-none", "says_nothing": "says-nothing"},
+    "crates/handover/proofs/Wrong.antt": {"takes_none": "takes-none", "says_nothing": "says-nothing"},
+    "crates/holdlist/proofs/KeepLaws.antt": {"after_next": "after_next_lem"},
+    "crates/images/proofs/WrittenLaws.antt": {"number_word": "number_word_lem"},
+    "crates/images/proofs/ImageLaws.antt": {"number_word": "number_word_lem"},
+    "crates/operator/proofs/ActLaws.antt": {"open_by": "open_by_lem"},
+    "crates/operator/proofs/OpenLaws.antt": {"open_by": "open_by_lem"},
+    "crates/records/proofs/WrittenLaws.antt": {"ended_by": "ended_by_lem"},
 }
+# Words of the library in names of laws.
+LIBRARY = {"getD": "get_or"}
 
 
 def snake(word):
@@ -33,7 +35,7 @@ def turned(text):
     """Every word of text that begins with a small letter, in snake case; what a dash joins is turned part by part."""
     def part(p):
         # a type keeps its capital wherever it stands in a name
-        return p if p[:1].isupper() else snake(p)
+        return p if p[:1].isupper() else LIBRARY.get(p, snake(p))
 
     def one(m):
         return "-".join(part(p) for p in m.group(0).split("-"))
@@ -57,8 +59,8 @@ def main():
         with open(path, encoding="utf-8") as f:
             old = f.read()
         text = old
-        for law in LAWS.get(os.path.relpath(path, top), ()):
-            text = re.sub(r"(?<![\w'-])" + law + r"(?![\w'-])", law + "_lem", text)
+        for name, new_name in NAMES.get(os.path.relpath(path, top), {}).items():
+            text = re.sub(r"(?<![\w'-])" + name + r"(?![\w'-])", new_name, text)
         text = turned(text)
         if text != old:
             new[path] = text

@@ -179,7 +179,7 @@ module _ {came : List Message} {j : Judged} (S : Starts came j) where
   starts-change : (c : Change) {k : Judged} → ByChange j c k → Starts (came ++ changed c ∷ []) k
   unfolding run_of opens changes_of
   starts-change c (moved l e) = record {
-    opened = greatest-last came (changed c) IsOpened (λ k f. omega arith) (refl, eq-eqb c.number 1 e) (λ k C. omega (arith, S.opened.above k C));
+    opened = greatest-last came (changed c) IsOpened (λ k f. omega arith) (refl, cc (eq-eqb c.number 1 e)) (λ k C. omega (arith, S.opened.above k C));
     later = came ++ changed c ∷ [];
     start = from_nothing refl refl;
     front = changes_of c.run came;

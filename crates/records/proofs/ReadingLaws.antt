@@ -396,7 +396,7 @@ module _ {ws : List ℕ} {from run w : ℕ} {f : Front} (H : Headed ws from run 
   pub headed-unknown : {space : List ℕ} → (17 ≤ w / act_unit → 24 ≤ w / act_unit) → ReadsRecord from (read_first (drop from ws)) space answer.Malformed space
   headed-unknown u = headed-as (head-unknown run w (drop (from + 2) ws) u) (reads_nothing refl)
 
-  module _ (Some-number : number_bits w ≡ 0 → ⊥) where
+  module _ (some-number : number_bits w ≡ 0 → ⊥) where
     pub headed-path : (t : ℕ) {space after : List ℕ} {p : PathRead} {r : Record} → t ≡ w / act_unit → (17 ≤ t) × (t ≤ 22) × (t ≡ 21 → ⊥)
         → ReadsPath f.at (path_behind f.next (drop f.at ws)) space p after → r ≡ path_record run (number_bits w) (t % 16) p
         → ReadsRecord from (read_first (drop from ws)) space r after

@@ -21,9 +21,9 @@ paste-less d at x s n h =
     ∙ sym (append_assoc (take at d) (x ∷ take n s) _))
 
 -- what lies behind the copy is as it was
-pub get_d-behind : (d : List ℕ) (at : ℕ) (s : List ℕ) (n k : ℕ) → at ≤ length d → n ≤ length s → at + n ≤ k
+pub get_or-behind : (d : List ℕ) (at : ℕ) (s : List ℕ) (n k : ℕ) → at ≤ length d → n ≤ length s → at + n ≤ k
     → get_or (paste d at s n) k 0 ≡ get_or d k 0
-get_d-behind d at s n k hd hs h =
+get_or-behind d at s n k hd hs h =
     let p : List ℕ = take at d ++ take n s in
     let j = k - (at + n) in
     let e : k ≡ at + n + j = omega arith in
@@ -34,9 +34,9 @@ get_d-behind d at s n k hd hs h =
     ∙ ap (λ (i : ℕ). get_or d i 0) (sym e)
 
 -- and so is what lies before it
-pub get_d-before : (d : List ℕ) (at : ℕ) (s : List ℕ) (n k : ℕ) → at ≤ length d → k < at
+pub get_or-before : (d : List ℕ) (at : ℕ) (s : List ℕ) (n k : ℕ) → at ≤ length d → k < at
     → get_or (paste d at s n) k 0 ≡ get_or d k 0
-get_d-before d at s n k hd h =
+get_or-before d at s n k hd h =
     let e = length-take-le at d hd in
     ap (λ (l : List ℕ). get_or l k 0) (append_assoc (take at d) (take n s) _)
     ∙ get_or-append (take at d) _ 0 k (omega arith) ∙ get_or-take at d k 0 h
@@ -48,7 +48,7 @@ moved_down d e from to i h k q =
     let l = length-drop from d in
     rw q
     (ap (λ (x : ℕ). set (paste d to (drop from d) i) (to + i) x)
-    (get_d-behind d to (drop from d) i (from + i) (omega arith) (omega arith) (omega arith) ∙ sym (get_or-drop from d i 0))
+    (get_or-behind d to (drop from d) i (from + i) (omega arith) (omega arith) (omega arith) ∙ sym (get_or-drop from d i 0))
     ∙ paste_more d to (drop from d) i (omega arith) (omega arith))
 
 -- a turn of a loop that moves n bytes to a higher offset, with `left` of them still to move
@@ -62,7 +62,7 @@ moved_up d e from to n left h k some less q =
     let e₃ : n - j ≡ n - left + 1 = omega arith in
     rw (q, e₃, drop-cons d (from + j) 0 (omega arith))
     (ap (λ (x : ℕ). set (paste d (to + left) (drop (from + left) d) (n - left)) (to + j) x)
-    (get_d-before d (to + left) (drop (from + left) d) (n - left) (from + j) (omega arith) (omega arith))
+    (get_or-before d (to + left) (drop (from + left) d) (n - left) (from + j) (omega arith) (omega arith))
     ∙ rw (e₁, e₂) (paste-less d (to + j) (get_or d (from + j) 0) (drop (suc (from + j)) d) (n - left) (omega arith)))
 
 -- what such a loop has done at its end

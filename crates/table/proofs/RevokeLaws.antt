@@ -90,8 +90,8 @@ module _ (m s : List ℕ) (k : ℕ) (h : table_head + length s ≤ length m) (le
       let e : k ≡ table_head + length s + (k - (table_head + length s)) = omega arith in
       ap (λ (j : ℕ). drop j (overwrite m table_head s)) e ∙ drop-behind m table_head s h (k - (table_head + length s)) ∙ ap (λ (j : ℕ). drop j m) (sym e)
 
-  get_d_over : get_or (overwrite m table_head s) k 0 ≡ get_or m k 0
-  get_d_over =
+  get_or_over : get_or (overwrite m table_head s) k 0 ≡ get_or m k 0
+  get_or_over =
       let e = add-zero k in
       ap (λ (j : ℕ). get_or (overwrite m table_head s) j 0) (sym e)
       ∙ sym (get_or-drop k (overwrite m table_head s) 0 0)
@@ -135,7 +135,7 @@ module _ {dropped : Entry → Bool} {m₀ m : List ℕ} {left kept from to : ℕ
   written = omega (arith, K.size, K.order, here.inside)
 
   same_at : (k : ℕ) → from ≤ k → get_or m k 0 ≡ get_or m₀ k 0
-  same_at k le = ap (λ (l : List ℕ). get_or l k 0) K.bytes ∙ get_d_over m₀ (encode_all K.ks) k written (omega (arith, K.size, K.order))
+  same_at k le = ap (λ (l : List ℕ). get_or l k 0) K.bytes ∙ get_or_over m₀ (encode_all K.ks) k written (omega (arith, K.size, K.order))
 
   same_from : (k : ℕ) → from ≤ k → drop k m ≡ drop k m₀
   same_from k le = ap (drop k) K.bytes ∙ drop-over m₀ (encode_all K.ks) k written (omega (arith, K.size, K.order))

@@ -9,11 +9,5 @@ returns-then-p-i c = rank-end _ _ c.if-p-i.true
 pub returns-then-b-eq47 : goal.returns-then-b-eq47
 returns-then-b-eq47 c = rank-slash _ _ c.if-p-i.false (omega arith)
 
-pub overflow_cast-result : goal.overflow_cast-result
-overflow_cast-result c = omega (arith, c.shared_slice_known-1.given c.args.i)
-
-pub overflow_add-result : goal.overflow_add-result
-overflow_add-result c = omega (arith, c.shared_slice_known-1.given c.args.i)
-
 pub returns : goal.returns
 returns c = rank-byte _ _ c.if-p-i.false c.if-b-eq47.false

@@ -5,11 +5,9 @@
  * neither be read nor written, so a call that leaves its areas ends the program. */
 #define _DEFAULT_SOURCE
 #include "areas.h"
-#include "faults.h"
 #include "make.h"
 #include "model.h"
 #include "permissions.h"
-#include "turn.h"
 
 #include <signal.h>
 #include <stdarg.h>
@@ -18,9 +16,16 @@
 #include <string.h>
 #include <unistd.h>
 
-enum { SLOTS = 12, GREATEST_CAUSE = 13, GREATEST_STATE = 5, PATIENCE_SECONDS = 120 };
+enum { EXTRA_BYTES = 4096, SLOTS = 12, GREATEST_CAUSE = 13, GREATEST_STATE = 5, PATIENCE_SECONDS = 120 };
 
-/* ---- which results the header names for each function */
+/* ---- the functions, and which results the header names for each */
+
+enum {
+    FRESH, INSERT, SET_SWITCHES, QUERY, QUERY_ALL, CHECK_ASKS, CHECK_PATH, CHECK_ALL_ASKS, CHECK_ALL, REQUEST_ASKS,
+    REQUEST_PATH, REQUEST_ALL_ASKS, REQUEST_ALL, REVOKE, REVOKE_ALL, MAKE_CHILD, BEGIN_RUN, LINKED_INSERT, LINKED_SWITCHES,
+    LINKED_CHECK, LINKED_CHECK_ALL, LINKED_REQUEST, LINKED_REQUEST_ALL, LINKED_REVOKE, LINKED_REVOKE_ALL, LINKED_CHILD,
+    ARRIVE, OWED, LINKED_IMAGE, ARRIVE_IMAGE, USED, HEAD, ENTRY, COMMON, UNIT_CHECKED, UNIT_REQUESTED, UNIT_REVOKED, FUNCTIONS
+};
 
 #define CAUSE(n) (1u << (n))
 #define CAUSES(from, to) ((2u << (to)) - (1u << (from)))
@@ -71,13 +76,14 @@ static const struct {
 
 /* ---- what has happened so far */
 
-static unsigned long call_limit = 100000, seed = 1;
+static unsigned long calls, call_limit = 100000, seed = 1;
 static unsigned long answers_seen[FUNCTIONS][GREATEST_STATE + 2]; /* the last is for greater results */
 static unsigned long causes_seen[FUNCTIONS][GREATEST_CAUSE + 1];
 static unsigned long tables_seen, none_seen, full_by_entries, full_by_bytes, refused_by_entries, refused_by_bytes;
 static unsigned long records_seen, records_of_refused, arrivals_by_entries, full_elsewhere, mains_followed;
 static unsigned long images_followed, images_wrong[WRONG_ALL + 1]; /* by what is wrong: a sum of WRONG_.. */
 static size_t most_shared; /* components of two paths */
+static int current; /* the function that runs */
 
 static int is_child(void)
 {
@@ -112,16 +118,107 @@ static void watch_signals(void)
         signal(watched[i], stopped);
 }
 
-/* ---- the tables, and what a call must leave */
+/* ---- the tables, and the one that a call gets */
 
-/* Tables that are kept from call to call, and that of a main whose run has just begun. */
-static struct slot slots[SLOTS], begun_slot;
+/* Tables that are kept from call to call, a standby's, and that of a main whose run has just begun. */
+static struct slot {
+    uint8_t bytes[TABLE_BYTES + EXTRA_BYTES];
+    int style;
+} slots[SLOTS], standby_slot, begun_slot;
+
+/* A path that is compared with another. */
+struct compared {
+    struct bytes given, path; /* and as resolved */
+    struct path resolved;
+    int cause; /* 0, or 4 to 7 */
+};
+
+static struct turn {
+    struct slot *slot;
+    void *memory; /* what is handed in, as for the other areas */
+    size_t memory_size;
+    int holds;
+    struct table table, after; /* by the model */
+    struct bytes given, directory;
+    struct path resolved;
+    struct bytes path; /* as resolved */
+    int cause;         /* of the path: 0, or 4 to 7 */
+    void *text;
+    size_t text_space;
+    struct link *linked; /* NULL where the call is a plain one */
+    struct link link;    /* by the model */
+    uint32_t run;        /* the main's */
+    uint64_t first;      /* its number before the call */
+    uint64_t *number;
+    uint32_t *records;
+    size_t records_space;
+    size_t *records_size;
+    struct standby had, standby; /* before the arrival, and after it by the model */
+    uint64_t *last, *highest;
+    uint32_t *own_run, *highest_run;
+    const uint32_t *words;
+    size_t words_size;
+    size_t image_space; /* of an image that is written */
+    const struct compared *compared[2];
+    size_t noise; /* in the number of what they share, before the call */
+    struct {
+        uint32_t state, prompt, answer; /* the state before the call */
+    } unit;
+} turn;
+
+static uint32_t word_in(int area, size_t place)
+{
+    uint32_t word;
+    memcpy(&word, areas[area].start + place * sizeof word, sizeof word);
+    return word;
+}
+
+static uint32_t number_in(int area)
+{
+    return word_in(area, 0);
+}
+
+static size_t size_in(int area)
+{
+    size_t number;
+    memcpy(&number, areas[area].start, sizeof number);
+    return number;
+}
+
+static uint64_t long_in(int area)
+{
+    uint64_t number;
+    memcpy(&number, areas[area].start, sizeof number);
+    return number;
+}
+
+/* The run in the first word of the record or image that is lent, or 0. */
+static uint32_t arriving_run(void)
+{
+    return turn.words_size > 0 ? word_in(WORDS, 0) & MAX_RUN : 0;
+}
+
+/* The number in its second word, or 0. */
+static uint32_t arriving_number(void)
+{
+    return turn.words_size > 1 ? word_in(WORDS, 1) & MAX_NUMBER : 0;
+}
 
 /* The standby's numbers, as they are lent. */
 static struct standby standby_in(void)
 {
     struct standby standby = {long_in(LAST), long_in(HIGHEST), number_in(OWN_RUN), number_in(HIGHEST_RUN)};
     return standby;
+}
+
+/* Whether the table is too full for that record, if it were the next one. */
+static int is_full_for_record(void)
+{
+    static struct table table;
+    struct standby standby = {arriving_number() - 1u, arriving_number(), arriving_run(), arriving_run()};
+
+    table = turn.table;
+    return model_arrive(&table, &standby, turn.words, turn.words_size) == -8;
 }
 
 static void want_number(int area, uint32_t number)
@@ -162,6 +259,18 @@ static void want_sent(void)
     memcpy(wanted(RECORDS), turn.link.words, turn.link.size * sizeof turn.link.words[0]);
     want_size(NUMBER_3, turn.link.size);
 }
+
+#ifdef BREAK
+enum { MOST_ARGUMENTS = 4 };
+#include "broken.h"
+#else
+enum { MOST_ARGUMENTS = 3 };
+
+static int is_without_model(void)
+{
+    return 0;
+}
+#endif
 
 /* ---- after a call */
 
@@ -261,7 +370,9 @@ static void hold_to_model(int32_t result, int32_t expected)
 /* Looks at what a call did; its result. */
 static int32_t settle(int32_t result, int32_t expected)
 {
-    result = put_fault(result);
+#ifdef BREAK
+    result = broken(result);
+#endif
     if (!is_without_model()) {
         hold_to_header(result);
         hold_to_model(result, expected);
@@ -1970,9 +2081,7 @@ static void read_arguments(int count, char **arguments)
                "Exit status: 0 no violation, 1 a violation (one line says which), 2 wrong usage.\n");
         exit(0);
     }
-    if (count == 2 && strcmp(arguments[1], "--faults") == 0 && print_faults())
-        exit(0);
-    if (count > 4 || (count == 4 && !choose_fault(arguments[3]))) {
+    if (count > MOST_ARGUMENTS) {
         fprintf(stderr, "usage: hostile [CALLS [SEED]]\n");
         exit(2);
     }
@@ -1980,6 +2089,10 @@ static void read_arguments(int count, char **arguments)
         call_limit = number_argument(arguments[1]);
     if (count > 2)
         seed = number_argument(arguments[2]);
+#ifdef BREAK
+    if (count > 3)
+        fault = number_argument(arguments[3]);
+#endif
 }
 
 int main(int count, char **arguments)

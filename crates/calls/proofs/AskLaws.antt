@@ -1,8 +1,8 @@
 -- Laws of check, request and revoke: what carrying out a decision comes to, each way through the checking order, and what is handed on.
+use Rattle.std.specs.Prelude.{Option, None, Some, Ok, Err}
 use Prim.Native.Nat.{ℕ, ◌+◌, ◌≤◌, ◌<◌}
 use mathlib.Core.Path.{◌≡◌, refl, sym, ap, ◌∙◌}
 use mathlib.Core.List.{List, []}
-use mathlib.Core.Option.{Option, none, some}
 use mathlib.Core.Bool.{Bool, true, false, cond}
 use native.Mathlib.Omega.{arith}
 use lib.ListN.{length, take}
@@ -11,7 +11,7 @@ use borrow.Author.Tests.{lt-ltb, le-ltb}
 use Rattle.refusals.specs.declared.Refusal.{Refusal}
 use Rattle.refusals.specs.declared.Refusal.TheVariants.{NoTable, NoSpace}
 use Rattle.refusals.specs.declared.Refusal.TheVariants as refusal
-use Rattle.refusals.specs.Refusals.{first_cause, Result, refused, ok, and_then, unless}
+use Rattle.refusals.specs.Refusals.{first_cause, Result, and_then, unless}
 use Rattle.paths.specs.declared.Descriptor.{Descriptor}
 use Rattle.paths.specs.declared.Descriptor.TheVariants.{NoPath, Path}
 use Rattle.paths.specs.declared.Resolution.{Resolution}
@@ -81,8 +81,8 @@ use Rattle.deciding.proofs.FittingLaws.{revoke-fits}
 
 pub acts-by : (cause : Option Refusal) (decision : Decision) → acts_of cause decision.act ≡ decided_acts (unless cause decision)
 unfolding decided_acts unless acts_of
-acts-by none decision = refl
-acts-by (some cause) decision = refl
+acts-by None decision = refl
+acts-by (Some cause) decision = refl
 
 module _ (decision : Decision) {link : Link} {l : Lent} {at : ℕ} {l' : Lent} {o : Sent}
     (P : Performs link decision.act l at l' o) where
@@ -96,11 +96,11 @@ module _ (decision : Decision) {link : Link} {l : Lent} {at : ℕ} {l' : Lent} {
   pub carried-records : Records link (decided_acts (carried_on link l decision)) l.number l.words at l'.number l'.words o.words
   carried-records = rw same-acts at P.records
 
-  pub carried-stops : {cause : Refusal} → o.outcome ≡ Refused cause → carried_on link l decision ≡ refused cause
+  pub carried-stops : {cause : Refusal} → o.outcome ≡ Refused cause → carried_on link l decision ≡ Err cause
   unfolding carried_out unless
   carried-stops e = rw (outcome-refused _ (sym P.outcome ∙ e))
 
-  pub carried-goes : o.outcome ≡ Done → carried_on link l decision ≡ ok decision
+  pub carried-goes : o.outcome ≡ Done → carried_on link l decision ≡ Ok decision
   unfolding carried_out unless
   carried-goes e = rw (outcome-done _ (sym P.outcome ∙ e))
 
@@ -171,15 +171,15 @@ module _ {call : Call} {link : Link} {d : Descriptor} {p cwd : List ℕ} {respon
 
 -- ---- what a settled call tells
 
-refused-by : (c : Result Decision) (n k : ℕ) {cause : Refusal} → settled_as c n k ≡ settled-as.Refused cause → c ≡ refused cause
+refused-by : (c : Result Decision) (n k : ℕ) {cause : Refusal} → settled_as c n k ≡ settled-as.Refused cause → c ≡ Err cause
 unfolding settled_as
-refused-by (refused cause) n k e = cc
-refused-by (ok decision) n k e = let z : ◌≡◌ {A = ℕ} 0 1 = cc in absurd (omega arith)
+refused-by (Err cause) n k e = cc
+refused-by (Ok decision) n k e = let z : ◌≡◌ {A = ℕ} 0 1 = cc in absurd (omega arith)
 
 -- the decision that the code's answer speaks of
 pub record Told (c : Result Decision) (state : PermissionState) (asked writes : Bool) : Type 0 where
   pub decision : Decision
-  pub is : c ≡ ok decision
+  pub is : c ≡ Ok decision
   pub state-is : state ≡ decision.state
   pub asked_is : asked ≡ decision.asked
   pub writes-is : writes ≡ decision.writes
@@ -187,27 +187,27 @@ pub record Told (c : Result Decision) (state : PermissionState) (asked writes : 
 told-by : (c : Result Decision) (n k : ℕ) {m j : ℕ} {state : PermissionState} {asked writes : Bool}
     → settled_as c n k ≡ settled-as.Decided state asked writes m j → Told c state asked writes × (m ≡ n) × (j ≡ k)
 unfolding settled_as
-told-by (refused cause) n k e = let z : ◌≡◌ {A = ℕ} 0 1 = cc in absurd (omega arith)
-told-by (ok decision) n k e = (record { decision = decision; is = refl; state-is = cc; asked_is = cc; writes-is = cc }, cc, cc)
+told-by (Err cause) n k e = let z : ◌≡◌ {A = ℕ} 0 1 = cc in absurd (omega arith)
+told-by (Ok decision) n k e = (record { decision = decision; is = refl; state-is = cc; asked_is = cc; writes-is = cc }, cc, cc)
 
 record IsOk (g : Result Query) : Type 0 where
   query : Query
-  is : g ≡ ok query
+  is : g ≡ Ok query
 
-given-ok : (g : Result Query) (f : Query → Result Decision) {decision : Decision} → and_then g f ≡ ok decision → IsOk g
+given-ok : (g : Result Query) (f : Query → Result Decision) {decision : Decision} → and_then g f ≡ Ok decision → IsOk g
 unfolding and_then
-given-ok (refused cause) f e = let z : ◌≡◌ {A = ℕ} 0 1 = cc in absurd (omega arith)
-given-ok (ok q) f e = record { query = q; is = refl }
+given-ok (Err cause) f e = let z : ◌≡◌ {A = ℕ} 0 1 = cc in absurd (omega arith)
+given-ok (Ok q) f e = record { query = q; is = refl }
 
 -- what is given is resolved where a call is decided
 pub decided-stands : (call : Call) (numbers : Numbering) (t : Table) (d : Descriptor) (p cwd : List ℕ) (response : PromptResponse) (s : List ℕ)
-    {decision : Decision} → settled call numbers t d p cwd response ≡ ok decision → Stands d p cwd (given_size d p cwd) (given_into d p cwd s)
+    {decision : Decision} → settled call numbers t d p cwd response ≡ Ok decision → Stands d p cwd (given_size d p cwd) (given_into d p cwd s)
 unfolding settled
 decided-stands call numbers t d p cwd response s e = given-stands d p cwd s (given-ok (given d p cwd) _ e).is
 
 module _ {call : Call} {link : Link} {l : Lent} {at : ℕ} {d : Descriptor} {p cwd : List ℕ} {response : PromptResponse} {s : List ℕ} {l' : Lent} {s' : List ℕ} {r : Settled}
     (S : Settles call link l at d p cwd response s l' s' r) where
-  pub settled-refused : {cause : Refusal} → r ≡ settled-as.Refused cause → settled_on call link l d p cwd response ≡ refused cause
+  pub settled-refused : {cause : Refusal} → r ≡ settled-as.Refused cause → settled_on call link l d p cwd response ≡ Err cause
   settled-refused e = refused-by (settled_on call link l d p cwd response) _ _ (sym S.answer ∙ e)
 
   module _ {state : PermissionState} {asked writes : Bool} {n k : ℕ} (e : r ≡ settled-as.Decided state asked writes n k) where
@@ -234,26 +234,26 @@ module _ {call : Call} {link : Link} {l : Lent} {at : ℕ} {d : Descriptor} {p c
 -- ---- the checking order of check and request
 
 module _ (call : Call) (link : Link) (l : Lent) (s : List ℕ) (a : About) (response : ℕ) where
-  pub ask-no-table : holds l.memory ≡ false → ask_call call link l s a response ≡ refused NoTable
+  pub ask-no-table : holds l.memory ≡ false → ask_call call link l s a response ≡ Err NoTable
   unfolding ask_call and_then
   ask-no-table h = rw (no_table l.memory h)
 
   module _ (h : holds l.memory ≡ true) where
-    pub ask-no-space : length s < text_bytes → ask_call call link l s a response ≡ refused NoSpace
+    pub ask-no-space : length s < text_bytes → ask_call call link l s a response ≡ Err NoSpace
     unfolding ask_call and_then text_space first_cause unless
     ask-no-space short = rw (a-table l.memory h, lt-ltb _ _ short)
 
     module _ (space : text_bytes ≤ length s) where
-      pub ask-short : lacks_room 1 link l.words ≡ true → ask_call call link l s a response ≡ refused NoSpace
+      pub ask-short : lacks_room 1 link l.words ≡ true → ask_call call link l s a response ≡ Err NoSpace
       unfolding ask_call and_then text_space first_cause unless
       ask-short e = rw (a-table l.memory h, le-ltb _ _ space, room-short 1 link l.words e)
 
-      pub ask-unlinked : lacks_room 1 link l.words ≡ false → lacks_run link ≡ true → ask_call call link l s a response ≡ refused refusal.Unknown
+      pub ask-unlinked : lacks_room 1 link l.words ≡ false → lacks_run link ≡ true → ask_call call link l s a response ≡ Err refusal.Unknown
       unfolding ask_call and_then text_space first_cause unless
       ask-unlinked e f = rw (a-table l.memory h, le-ltb _ _ space, room-long 1 link l.words e, run-unknown link l.number f)
 
       module _ (A : Admits 1 link l.words) where
-        pub ask-unknown : response_of response ≡ Unknown → ask_call call link l s a response ≡ refused refusal.Unknown
+        pub ask-unknown : response_of response ≡ Unknown → ask_call call link l s a response ≡ Err refusal.Unknown
         unfolding ask_call and_then text_space first_cause unless known_response
         ask-unknown u = rw (a-table l.memory h, le-ltb _ _ space, room-long 1 link l.words A.roomy, run-known link l.number A.run, u)
 
@@ -274,7 +274,7 @@ pub finishes-silent : {state : PermissionState} {asked writes : Bool} {words : �
 unfolding begun
 finishes-silent given resolved s e = rw e (record { answer = refl; told = refl; sent = refl; size = refl; space = refl })
 
-pub answers-refused : {c : Result Decision} {a : About} {s : List ℕ} {cause : Refusal} {r : Asked} → c ≡ refused cause → r ≡ refused_ask cause
+pub answers-refused : {c : Result Decision} {a : About} {s : List ℕ} {cause : Refusal} {r : Asked} → c ≡ Err cause → r ≡ refused_ask cause
     → Answers c a s s r
 unfolding answer_in asked_in text_due text_in begun
 answers-refused e f = rw f (record { answer = rw e; asked = rw e; size = rw e; space = rw e })
@@ -288,7 +288,7 @@ module _ {call : Call} {link : Link} {l : Lent} {a : About} {known : PromptRespo
   pub stopped-sends : {cause : Refusal} → r ≡ settled-as.Refused cause → Sends link (decided_acts c) l l' 0
   unfolding decided_acts all_words
   stopped-sends f =
-      let stop : c ≡ refused _ = e ∙ settled-refused S f in
+      let stop : c ≡ Err _ = e ∙ settled-refused S f in
       let silent : S.words ≡ 0 = settled-sends.count ∙ rw (stop, no-changes link l.number) in
       rw silent at settled-sends
 
@@ -306,7 +306,7 @@ module _ {call : Call} {link : Link} {l : Lent} {a : About} {known : PromptRespo
       }
 
 module _ {call : Call} {link : Link} {l : Lent} {s : List ℕ} {a : About} {response : ℕ} where
-  pub asks-refused : {cause : Refusal} {r : Asked} → ask_call call link l s a response ≡ refused cause → r ≡ refused_ask cause
+  pub asks-refused : {cause : Refusal} {r : Asked} → ask_call call link l s a response ≡ Err cause → r ≡ refused_ask cause
       → Asks call link l s a response l s r
   unfolding decided_acts
   asks-refused e f = rw f (record { answers = answers-refused e refl; sends = sends-nothing (rw e) })
@@ -336,14 +336,14 @@ module _ (a : About) where
   due-short : (call : Call) (numbers : Numbering) (t : Table) (known : PromptResponse) (c : Result Decision)
       → settled call numbers t a.descriptor a.given a.cwd known ≡ c → length (text_due c a) ≤ text_bytes
   unfolding text_due text_in
-  due-short call numbers t known (refused cause) e = omega arith
-  due-short call numbers t known (ok decision) e =
+  due-short call numbers t known (Err cause) e = omega arith
+  due-short call numbers t known (Ok decision) e =
       cut_short decision.writes _ (stands-short a.descriptor a.given a.cwd (decided-stands call numbers t a.descriptor a.given a.cwd known [] e))
 
   step-short : {A : Type 0} (x : Result A) (f : A → Result Decision) → ((y : A) → length (text_due (f y) a) ≤ text_bytes) → length (text_due (and_then x f) a) ≤ text_bytes
   unfolding and_then
-  step-short (refused cause) f h = unfold text_due text_in in omega arith
-  step-short (ok y) f h = h y
+  step-short (Err cause) f h = unfold text_due text_in in omega arith
+  step-short (Ok y) f h = h y
 
 pub text-short : {call : Call} {link : Link} {l : Lent} {s : List ℕ} {a : About} {response : ℕ} {l' : Lent} {s' : List ℕ} {r : Asked}
     → Asks call link l s a response l' s' r → r.text ≤ text_bytes
@@ -358,7 +358,7 @@ text-short {call} {link} {l} {s} {a} {response} A =
 
 -- ---- revoke
 
-module _ (q : Query) {link : Link} {l l' : Lent} {o : Sent} {a : Option Act} (f : a ≡ some (revoke_act q)) (P : Performs link a l 0 l' o) where
+module _ (q : Query) {link : Link} {l l' : Lent} {o : Sent} {a : Option Act} (f : a ≡ Some (revoke_act q)) (P : Performs link a l 0 l' o) where
   performs-revoke : Performs link (revoke_desc (table_of l.memory) q).act l 0 l' o
   unfolding revoke_desc
   performs-revoke = rw f at P
@@ -374,14 +374,14 @@ module _ (q : Query) {link : Link} {l l' : Lent} {o : Sent} {a : Option Act} (f 
   module _ (h : holds l.memory ≡ true) (i : is_query q ≡ true) where
     pub revoke-asks : holds l'.memory ≡ true
     unfolding revoke_desc fits
-    revoke-asks = rw (P.memory, f) (acted-carried (numbering link l.number) l.memory (some (revoke_act q)) h (revoke-fits q i)).holding
+    revoke-asks = rw (P.memory, f) (acted-carried (numbering link l.number) l.memory (Some (revoke_act q)) h (revoke-fits q i)).holding
 
     pub revoke-state : {state : PermissionState} → o.outcome ≡ Done → state ≡ query_desc (table_of l'.memory) TreatAsPartialGranted q
         → RevokesQuery link q l l' (record { answer = answer.State state; words = o.words })
     unfolding answer_in revoke_desc fits acts_of apply_acts
     revoke-state e s =
-        let left = acted-carried (numbering link l.number) l.memory (some (revoke_act q)) h (revoke-fits q i) in
-        let free : cause_on link l (some (revoke_act q)) ≡ none = outcome-done _ (sym performs-revoke.outcome ∙ e) in
+        let left = acted-carried (numbering link l.number) l.memory (Some (revoke_act q)) h (revoke-fits q i) in
+        let free : cause_on link l (Some (revoke_act q)) ≡ None = outcome-done _ (sym performs-revoke.outcome ∙ e) in
         let table : table_of l'.memory ≡ apply_act (table_of l.memory) (revoke_act q) = ap table_of performs-revoke.memory ∙ rw free (rw free at left.table) in
         record {
           answer = rw (carried-goes (revoke_desc (table_of l.memory) q) performs-revoke e) (ap answer.State (s ∙ ap (λ (t : Table). query_desc t TreatAsPartialGranted q) table));
@@ -390,31 +390,31 @@ module _ (q : Query) {link : Link} {l l' : Lent} {o : Sent} {a : Option Act} (f 
 
 -- the checking order of a revoke
 module _ (link : Link) (l : Lent) (a : About) where
-  pub revoke-no-table : holds l.memory ≡ false → revoke_call link l a ≡ refused NoTable
+  pub revoke-no-table : holds l.memory ≡ false → revoke_call link l a ≡ Err NoTable
   unfolding revoke_call and_then
   revoke-no-table h = rw (no_table l.memory h)
 
   module _ (h : holds l.memory ≡ true) where
-    pub revoke-short : lacks_room 1 link l.words ≡ true → revoke_call link l a ≡ refused NoSpace
+    pub revoke-short : lacks_room 1 link l.words ≡ true → revoke_call link l a ≡ Err NoSpace
     unfolding revoke_call and_then
     revoke-short e = rw (a-table l.memory h, room-short 1 link l.words e)
 
-    pub revoke-unlinked : lacks_room 1 link l.words ≡ false → lacks_run link ≡ true → revoke_call link l a ≡ refused refusal.Unknown
+    pub revoke-unlinked : lacks_room 1 link l.words ≡ false → lacks_run link ≡ true → revoke_call link l a ≡ Err refusal.Unknown
     unfolding revoke_call and_then
     revoke-unlinked e f = rw (a-table l.memory h, room-long 1 link l.words e, run-unknown link l.number f)
 
     module _ (A : Admits 1 link l.words) where
-      pub revoke-ungiven : {cause : Refusal} → given a.descriptor a.given a.cwd ≡ refused cause → revoke_call link l a ≡ refused cause
+      pub revoke-ungiven : {cause : Refusal} → given a.descriptor a.given a.cwd ≡ Err cause → revoke_call link l a ≡ Err cause
       unfolding revoke_call and_then
       revoke-ungiven g = rw (a-table l.memory h, room-long 1 link l.words A.roomy, run-known link l.number A.run, g)
 
-      pub revoke-given : (q : Query) → given a.descriptor a.given a.cwd ≡ ok q
+      pub revoke-given : (q : Query) → given a.descriptor a.given a.cwd ≡ Ok q
           → revoke_call link l a ≡ carried_on link l (revoke_desc (table_of l.memory) q)
       unfolding revoke_call and_then
       revoke-given q g = rw (a-table l.memory h, room-long 1 link l.words A.roomy, run-known link l.number A.run, g)
 
 module _ {link : Link} {l : Lent} {a : About} where
-  pub revokes-refused : {cause : Refusal} {r : Revoked} → revoke_call link l a ≡ refused cause → r ≡ refused_revoke cause → Revokes link l a l r
+  pub revokes-refused : {cause : Refusal} {r : Revoked} → revoke_call link l a ≡ Err cause → r ≡ refused_revoke cause → Revokes link l a l r
   unfolding answer_in decided_acts
   revokes-refused e f = rw f (record { answer = rw e; sends = sends-nothing (rw e) })
 

@@ -1,4 +1,5 @@
 -- Laws of the calls that set switches and insert: each way through the checking order.
+use Rattle.std.specs.Prelude.{Ok, Err}
 use Prim.Native.Nat.{ℕ, ◌≤◌, ◌<◌}
 use mathlib.Core.Path.{◌≡◌}
 use mathlib.Core.List.{List}
@@ -7,7 +8,7 @@ use native.Mathlib.Omega.{arith}
 use borrow.Author.Tests.{lt-ltb, le-ltb}
 use Rattle.refusals.specs.declared.Refusal.{Refusal}
 use Rattle.refusals.specs.declared.Refusal.TheVariants.{NoTable, NoSpace, Unknown}
-use Rattle.refusals.specs.Refusals.{first_cause, Result, refused, ok, and_then, unless}
+use Rattle.refusals.specs.Refusals.{first_cause, Result, and_then, unless}
 use Rattle.paths.specs.declared.Descriptor.TheVariants.{Path}
 use Rattle.paths.specs.Giving.{resolved, query_of, given}
 use Rattle.table.specs.declared.Kind.{Kind}
@@ -27,21 +28,21 @@ use Rattle.calls.specs.Changes.{known_switches, switches_call, insert_call}
 -- ---- switches
 
 module _ (link : Link) (l : Lent) (v : ℕ) where
-  pub switches-no-table : holds l.memory ≡ false → switches_call link l v ≡ refused NoTable
+  pub switches-no-table : holds l.memory ≡ false → switches_call link l v ≡ Err NoTable
   unfolding switches_call and_then
   switches-no-table h = rw (no_table l.memory h)
 
   module _ (h : holds l.memory ≡ true) where
-    pub switches-short : lacks_room 1 link l.words ≡ true → switches_call link l v ≡ refused NoSpace
+    pub switches-short : lacks_room 1 link l.words ≡ true → switches_call link l v ≡ Err NoSpace
     unfolding switches_call and_then
     switches-short e = rw (a-table l.memory h, room-short 1 link l.words e)
 
-    pub switches-unlinked : lacks_room 1 link l.words ≡ false → lacks_run link ≡ true → switches_call link l v ≡ refused Unknown
+    pub switches-unlinked : lacks_room 1 link l.words ≡ false → lacks_run link ≡ true → switches_call link l v ≡ Err Unknown
     unfolding switches_call and_then
     switches-unlinked e f = rw (a-table l.memory h, room-long 1 link l.words e, run-unknown link l.number f)
 
     module _ (A : Admits 1 link l.words) where
-      pub switches-unknown : max_switches < v → switches_call link l v ≡ refused Unknown
+      pub switches-unknown : max_switches < v → switches_call link l v ≡ Err Unknown
       unfolding switches_call and_then known_switches first_cause unless
       switches-unknown h₂ = rw (a-table l.memory h, room-long 1 link l.words A.roomy, run-known link l.number A.run, lt-ltb _ _ h₂)
 
@@ -52,40 +53,40 @@ module _ (link : Link) (l : Lent) (v : ℕ) where
 -- ---- insert
 
 module _ (link : Link) (l : Lent) (kind : ℕ) (p cwd : List ℕ) where
-  pub insert-no-table : holds l.memory ≡ false → insert_call link l kind p cwd ≡ refused NoTable
+  pub insert-no-table : holds l.memory ≡ false → insert_call link l kind p cwd ≡ Err NoTable
   unfolding insert_call and_then
   insert-no-table h = rw (no_table l.memory h)
 
   module _ (h : holds l.memory ≡ true) where
-    pub insert-short : lacks_room 1 link l.words ≡ true → insert_call link l kind p cwd ≡ refused NoSpace
+    pub insert-short : lacks_room 1 link l.words ≡ true → insert_call link l kind p cwd ≡ Err NoSpace
     unfolding insert_call and_then
     insert-short e = rw (a-table l.memory h, room-short 1 link l.words e)
 
-    pub insert-unlinked : lacks_room 1 link l.words ≡ false → lacks_run link ≡ true → insert_call link l kind p cwd ≡ refused Unknown
+    pub insert-unlinked : lacks_room 1 link l.words ≡ false → lacks_run link ≡ true → insert_call link l kind p cwd ≡ Err Unknown
     unfolding insert_call and_then
     insert-unlinked e f = rw (a-table l.memory h, room-long 1 link l.words e, run-unknown link l.number f)
 
     module _ (A : Admits 1 link l.words) where
-      pub insert-unknown : kind_of kind ≡ kind-read.Unknown → insert_call link l kind p cwd ≡ refused Unknown
+      pub insert-unknown : kind_of kind ≡ kind-read.Unknown → insert_call link l kind p cwd ≡ Err Unknown
       unfolding insert_call and_then known_kind
       insert-unknown e = rw (a-table l.memory h, room-long 1 link l.words A.roomy, run-known link l.number A.run, e)
 
       module _ {k : Kind} (e : kind_of kind ≡ kind-read.Kind k) where
-        pub insert-refused : {cause : Refusal} → given Path p cwd ≡ refused cause → insert_call link l kind p cwd ≡ refused cause
+        pub insert-refused : {cause : Refusal} → given Path p cwd ≡ Err cause → insert_call link l kind p cwd ≡ Err cause
         unfolding insert_call and_then known_kind given query_of
         insert-refused g = rw (a-table l.memory h, room-long 1 link l.words A.roomy, run-known link l.number A.run, e) (go (resolved p cwd) g)
           where
-            go : {cause : Refusal} (r : Result (List ℕ)) → and_then r (λ q. ok (query_of Path q)) ≡ refused cause
-                → and_then r (λ q. carried (numbering link l.number) (table_of l.memory) (insert (record { kind = k; path = q }))) ≡ refused cause
-            go (refused c) f = cc
-            go (ok q) f = let z : ◌≡◌ {A = ℕ} 0 1 = cc in absurd (omega arith)
+            go : {cause : Refusal} (r : Result (List ℕ)) → and_then r (λ q. Ok (query_of Path q)) ≡ Err cause
+                → and_then r (λ q. carried (numbering link l.number) (table_of l.memory) (insert (record { kind = k; path = q }))) ≡ Err cause
+            go (Err c) f = cc
+            go (Ok q) f = let z : ◌≡◌ {A = ℕ} 0 1 = cc in absurd (omega arith)
 
-        pub insert-known : (q : List ℕ) → given Path p cwd ≡ ok (query_of Path q)
+        pub insert-known : (q : List ℕ) → given Path p cwd ≡ Ok (query_of Path q)
             → insert_call link l kind p cwd ≡ carried (numbering link l.number) (table_of l.memory) (insert (record { kind = k; path = q }))
         unfolding insert_call and_then known_kind given query_of
         insert-known q g = rw (a-table l.memory h, room-long 1 link l.words A.roomy, run-known link l.number A.run, e) (go q (resolved p cwd) g)
           where
-            go : (q : List ℕ) (r : Result (List ℕ)) → and_then r (λ q. ok (query_of Path q)) ≡ ok (query_of Path q)
+            go : (q : List ℕ) (r : Result (List ℕ)) → and_then r (λ q. Ok (query_of Path q)) ≡ Ok (query_of Path q)
                 → and_then r (λ q. carried (numbering link l.number) (table_of l.memory) (insert (record { kind = k; path = q }))) ≡ carried (numbering link l.number) (table_of l.memory) (insert (record { kind = k; path = q }))
-            go q (refused c) f = let z : ◌≡◌ {A = ℕ} 0 1 = cc in absurd (omega arith)
-            go q (ok p) f = cc
+            go q (Err c) f = let z : ◌≡◌ {A = ℕ} 0 1 = cc in absurd (omega arith)
+            go q (Ok p) f = cc

@@ -1,13 +1,13 @@
 -- What every call keeps: memory that held a table holds one, no mark is cleared, and it is the same wherever the table stands.
+use Rattle.std.specs.Prelude.{Option, None, Some, Ok, Err}
 use Prim.Native.Nat.{ℕ}
 use mathlib.Core.Path.{◌≡◌, refl}
 use mathlib.Core.List.{List, []}
-use mathlib.Core.Option.{Option, none, some}
 use mathlib.Core.Bool.{true}
 use borrow.Author.Tests.{le-leb, ltb-false}
 use Rattle.refusals.specs.declared.Refusal.{Refusal}
 use Rattle.refusals.specs.declared.Refusal.TheVariants.{Unknown}
-use Rattle.refusals.specs.Refusals.{refused, ok, and_then, unless}
+use Rattle.refusals.specs.Refusals.{and_then, unless}
 use Rattle.refusals.proofs.CauseLaws.{no-cause-head, unless-ok}
 use Rattle.paths.specs.declared.Descriptor.{Descriptor}
 use Rattle.paths.specs.Giving.{is_path, resolved, given}
@@ -38,7 +38,7 @@ use Rattle.calls.specs.Changes.{known_switches, switches_call, insert_call, Sets
 use Rattle.deciding.proofs.FittingLaws.{decided-fits, revoke-fits}
 use Rattle.calls.proofs.AskLaws.{acts-by}
 
-no-acts : (cause : Refusal) → decided_acts (refused cause) ≡ []
+no-acts : (cause : Refusal) → decided_acts (Err cause) ≡ []
 unfolding decided_acts
 no-acts cause = refl
 
@@ -81,20 +81,20 @@ revoke-acted link l a h =
 
 -- ---- switches and insert
 
-changed-none : (cause : Refusal) → single_act (refused cause) ≡ []
+changed-none : (cause : Refusal) → single_act (Err cause) ≡ []
 unfolding single_act
 changed-none cause = refl
 
-changed-by : (cause : Option Refusal) (act : Act) → acts_of cause (some act) ≡ single_act (unless cause act)
+changed-by : (cause : Option Refusal) (act : Act) → acts_of cause (Some act) ≡ single_act (unless cause act)
 unfolding acts_of single_act unless
-changed-by none act = refl
-changed-by (some cause) act = refl
+changed-by None act = refl
+changed-by (Some cause) act = refl
 
 changed-acted : (numbers : Numbering) (m : List ℕ) (act : Act) → holds m ≡ true → is_act act ≡ true → Acted m (single_act (carried numbers (table_of m) act))
 unfolding carried fits
-changed-acted numbers m act h f = rw (changed-by (carry_cause numbers (table_of m) (some act)) act) at (acted-carried numbers m (some act) h f)
+changed-acted numbers m act h f = rw (changed-by (carry_cause numbers (table_of m) (Some act)) act) at (acted-carried numbers m (Some act) h f)
 
-switches-by : (v : ℕ) {k : ℕ} → known_switches v ≡ ok k → is_act (set_switches k) ≡ true
+switches-by : (v : ℕ) {k : ℕ} → known_switches v ≡ Ok k → is_act (set_switches k) ≡ true
 unfolding known_switches is_act
 switches-by v e =
     let b = unless-ok _ v e in

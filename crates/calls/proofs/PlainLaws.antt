@@ -1,12 +1,12 @@
 -- A plain call is lent memory alone: it does not depend on number and words. A linked call is the plain call and its records: where its run is known and its records have
 -- room, it is the plain call, unless no number is left for its act. What it sends is then said by its promise.
+use Rattle.std.specs.Prelude.{Option, None, Some, Ok, Err}
 use Prim.Native.Nat.{ℕ}
 use mathlib.Core.Path.{◌≡◌, refl}
 use mathlib.Core.List.{List, [], ◌∷◌}
-use mathlib.Core.Option.{Option, none, some}
 use mathlib.Core.Bool.{Bool, true, false}
 use Rattle.refusals.specs.declared.Refusal.TheVariants.{TableFull, NumbersUsedUp}
-use Rattle.refusals.specs.Refusals.{when, first_cause, Result, refused, ok, and_then, unless}
+use Rattle.refusals.specs.Refusals.{when, first_cause, Result, and_then, unless}
 use Rattle.paths.specs.declared.Descriptor.{Descriptor}
 use Rattle.paths.specs.Giving.{resolved, given}
 use Rattle.table.specs.Entries.{kind_of, known_kind}
@@ -68,12 +68,12 @@ revoke-alone {l} {a} R = let e = same-revoke l a in record { answer = rw e at R.
 -- the linked call is the plain one, or no number is left
 pub data SameOrUsedUp {A : Type 0} (plain : Result A) : Result A → Type 0 where
   same : SameOrUsedUp plain plain
-  used-up : SameOrUsedUp plain (refused NumbersUsedUp)
+  used-up : SameOrUsedUp plain (Err NumbersUsedUp)
 
 step_same : {A B : Type 0} (a : Result A) (f g : A → Result B) → ((x : A) → SameOrUsedUp (f x) (g x)) → SameOrUsedUp (and_then a f) (and_then a g)
 unfolding and_then
-step_same (refused cause) f g h = same
-step_same (ok x) f g h = h x
+step_same (Err cause) f g h = same
+step_same (Ok x) f g h = h x
 
 unless-same : {A : Type 0} (x : A) (over left : Bool)
     → SameOrUsedUp (unless (first_cause (when over TableFull ∷ when false NumbersUsedUp ∷ [])) x) (unless (first_cause (when over TableFull ∷ when left NumbersUsedUp ∷ [])) x)
@@ -84,12 +84,12 @@ unless-same x false false = same
 
 carry_same : {A : Type 0} (n : ℕ) (t : Table) (act : Option Act) (x : A) → SameOrUsedUp (unless (carry_cause unnumbered t act) x) (unless (carry_cause (after n) t act) x)
 unfolding carry_cause
-carry_same n t none x = same
-carry_same n t (some act) x = unfold used_up in unless-same x (act_overflows t act) (used_up (after n))
+carry_same n t None x = same
+carry_same n t (Some act) x = unfold used_up in unless-same x (act_overflows t act) (used_up (after n))
 
 carried_same : (n : ℕ) (t : Table) (act : Act) → SameOrUsedUp (carried unnumbered t act) (carried (after n) t act)
 unfolding carried
-carried_same n t act = carry_same n t (some act) act
+carried_same n t act = carry_same n t (Some act) act
 
 decision-same : (n : ℕ) (t : Table) (decision : Decision) → SameOrUsedUp (carried_out unnumbered t decision) (carried_out (after n) t decision)
 unfolding carried_out

@@ -1,7 +1,6 @@
 -- The calls check, request and revoke, plain and linked: for each its checking order, its answer, and the lent bytes after it. Scope, "A call comes in".
-use Rattle.std.specs.Prelude.{ℕ, ◌+◌, ◌≤◌, ◌≡◌, List, [], Bool, false, cond, length}
-use Rattle.std.proofs.Math.Option.{none}
-use Rattle.refusals.specs.Refusals.{Result, refused, ok, and_then, unless}
+use Rattle.std.specs.Prelude.{ℕ, ◌+◌, ◌≤◌, ◌≡◌, List, [], Bool, false, cond, length, None, Ok, Err}
+use Rattle.refusals.specs.Refusals.{Result, and_then, unless}
 use Rattle.paths.specs.declared.Descriptor.{Descriptor}
 use Rattle.paths.specs.Resolving.{resolve}
 use Rattle.paths.specs.Copying.{begun}
@@ -39,21 +38,21 @@ abbrev pub carried_on : Link → Lent → Decision → Result Decision
 carried_on link l decision = carried_out (numbering link l.number) (table_of l.memory) decision
 
 unfoldable pub answer_in : Result Decision → Answer
-answer_in (refused cause) = answer.Refused cause
-answer_in (ok decision) = answer.State decision.state
+answer_in (Err cause) = answer.Refused cause
+answer_in (Ok decision) = answer.State decision.state
 
 unfoldable pub asked_in : Result Decision → Bool
-asked_in (refused cause) = false
-asked_in (ok decision) = decision.asked
+asked_in (Err cause) = false
+asked_in (Ok decision) = decision.asked
 
 unfoldable pub decided_acts : Result Decision → List Act
-decided_acts (refused cause) = []
-decided_acts (ok decision) = acts_of none decision.act
+decided_acts (Err cause) = []
+decided_acts (Ok decision) = acts_of None decision.act
 
 -- the text that is written; a refused call writes none
 unfoldable pub text_in : Result Decision → List ℕ → List ℕ
-text_in (refused cause) text = []
-text_in (ok decision) text = cond decision.writes text []
+text_in (Err cause) text = []
+text_in (Ok decision) text = cond decision.writes text []
 
 -- ---- check and request of what is given, on the table t: 4 to 9
 
@@ -68,8 +67,8 @@ settled_on call link l d p cwd response = settled call (numbering link l.number)
 
 -- what it comes to as an answer of the code, with the resolved path's length and where the record ends
 unfoldable pub settled_as : Result Decision → ℕ → ℕ → Settled
-settled_as (refused cause) n k = settled-as.Refused cause
-settled_as (ok decision) n k = settled-as.Decided decision.state decision.asked decision.writes n k
+settled_as (Err cause) n k = settled-as.Refused cause
+settled_as (Ok decision) n k = settled-as.Decided decision.state decision.asked decision.writes n k
 
 -- what is lent, l, and the space s become l' and s'; a record stands from `at` on, and ends at `words`
 pub record Settles (call : Call) (link : Link) (l : Lent) (at : ℕ) (d : Descriptor) (p cwd : List ℕ) (response : PromptResponse)

@@ -1,15 +1,15 @@
 -- How often a child call asks: at most once for each item, so at most 64 times.
+use Rattle.std.specs.Prelude.{Option, None, Some, Ok, Err}
 use Prim.Native.Nat.{ℕ, ◌+◌, ◌≤◌}
 use mathlib.Core.Path.{◌≡◌, refl}
 use mathlib.Core.List.{List, [], ◌∷◌}
-use mathlib.Core.Option.{Option, none, some}
 use mathlib.Core.Bool.{Bool, true, false, ◌&&◌, not}
 use native.Mathlib.Omega.{arith}
 use lib.ListN.{length}
 use borrow.Author.Tests.{leb-true}
 use Rattle.refusals.specs.declared.Refusal.{Refusal}
 use Rattle.refusals.specs.declared.Refusal.TheVariants as refusal
-use Rattle.refusals.specs.Refusals.{when, first_cause, Result, refused, ok, and_then, unless}
+use Rattle.refusals.specs.Refusals.{when, first_cause, Result, and_then, unless}
 use Rattle.paths.proofs.ComponentLaws.{and_left}
 use Rattle.link.specs.Linking.{room_in, Numbering, run_in}
 use Rattle.table.specs.Tables.{Table}
@@ -33,8 +33,8 @@ then-asked : (a b : Made) (j k n : ℕ) → a.asked ≤ j → b.asked ≤ k → 
 then-asked a b j k n f g h = by a.refused
   where
     by : (o : Option Refusal) → (onward o a b).asked ≤ n
-    by none = unfold onward in omega arith
-    by (some cause) = unfold onward in omega arith
+    by None = unfold onward in omega arith
+    by (Some cause) = unfold onward in omega arith
 
 items-asked : (cwd : List ℕ) (items : List Item) (numbers : Numbering) (t u : Table) → (all_items numbers cwd items t u).asked ≤ length items
 unfolding all_items
@@ -74,13 +74,13 @@ order-fits arg bytes ends responses h = and_left (items_fit arg ends) _ (and_lef
 
 -- whatever a call is handed, it has at most 64 items
 unfoldable Few : Result Arguments → Type 0
-Few (refused cause) = Unit {0}
-Few (ok args) = length args.items ≤ max_items
+Few (Err cause) = Unit {0}
+Few (Ok args) = length args.items ≤ max_items
 
 step-few : {A : Type 0} (a : Result A) (f : A → Result Arguments) → ((x : A) → Few (f x)) → Few (and_then a f)
 unfolding and_then Few
-step-few (refused cause) f h = tt
-step-few (ok x) f h = h x
+step-few (Err cause) f h = tt
+step-few (Ok x) f h = h x
 
 order-few : (b : Bool) (args : Arguments) → (b ≡ true → length args.items ≤ max_items)
     → Few (unless (first_cause (when (not b) refusal.Unknown ∷ [])) args)
@@ -97,16 +97,16 @@ arguments-few code bytes ends responses =
 
 step-asked : {A : Type 0} (a : Result A) (f : A → Result Creation) → ((x : A) → times_asked (f x) ≤ max_items) → times_asked (and_then a f) ≤ max_items
 unfolding and_then
-step-asked (refused cause) f h = unfold times_asked in omega arith
-step-asked (ok x) f h = h x
+step-asked (Err cause) f h = unfold times_asked in omega arith
+step-asked (Ok x) f h = h x
 
-args-asked : (numbers : Numbering) (t : Table) (cwd : List ℕ) (r : Result Arguments) → Few r → times_asked (and_then r (λ args. ok (creation numbers t cwd args))) ≤ max_items
+args-asked : (numbers : Numbering) (t : Table) (cwd : List ℕ) (r : Result Arguments) → Few r → times_asked (and_then r (λ args. Ok (creation numbers t cwd args))) ≤ max_items
 unfolding and_then times_asked creation Few
-args-asked numbers t cwd (refused cause) h = omega arith
-args-asked numbers t cwd (ok args) h = omega (arith, made-asked numbers t args cwd)
+args-asked numbers t cwd (Err cause) h = omega arith
+args-asked numbers t cwd (Ok args) h = omega (arith, made-asked numbers t args cwd)
 
 created-asked : (numbers : Numbering) (t : Table) (code : ℕ) (bytes ends responses cwd : List ℕ)
-    → times_asked (and_then (arguments_of code bytes ends responses) (λ args. ok (creation numbers t cwd args))) ≤ max_items
+    → times_asked (and_then (arguments_of code bytes ends responses) (λ args. Ok (creation numbers t cwd args))) ≤ max_items
 created-asked numbers t code bytes ends responses cwd = args-asked numbers t cwd (arguments_of code bytes ends responses) (arguments-few code bytes ends responses)
 
 call-asked : (link : Link) (l : Lent) (c : List ℕ) (code : ℕ) (list : ItemList) (cwd : List ℕ) → times_asked (child_call link l c code list cwd) ≤ max_items

@@ -1,16 +1,16 @@
 -- Laws that bear the child call out: what it keeps, that it is the same wherever the parent's table stands, that an Inherit child has its parent's
 -- switches, and that a list child never has switch 1.
+use Rattle.std.specs.Prelude.{Option, None, Some, Ok, Err}
 use Prim.Native.Nat.{ℕ, ◌+◌, ◌-◌, ◌/◌, ◌%◌}
 use mathlib.Core.Path.{◌≡◌, refl, sym, ap, ◌∙◌}
 use mathlib.Core.List.{List, [], ◌∷◌}
-use mathlib.Core.Option.{Option, none, some}
 use mathlib.Core.Bool.{Bool, true, false, cond}
 use native.Mathlib.Omega.{arith}
 use lib.Dec.{eqb}
 use borrow.Author.Tests.{eqb-true, ne_eqb}
 use Rattle.refusals.specs.declared.Refusal.{Refusal}
 use Rattle.refusals.specs.declared.Refusal.TheVariants.{TableFull, Escalation}
-use Rattle.refusals.specs.Refusals.{Result, refused, ok}
+use Rattle.refusals.specs.Refusals.{Result}
 use Rattle.paths.specs.declared.Descriptor.TheVariants.{Path}
 use Rattle.paths.specs.Giving.{query_of}
 use Rattle.link.specs.Linking.{Numbering}
@@ -65,17 +65,17 @@ same-child m n h k e link number w c code list cwd = rw (same-table m n h k e)
 abbrev after : Table → Made → Table
 after u made = apply_acts u made.grants
 
-after_then : (u : Table) (a b : Made) → a.refused ≡ none → after u (then a b) ≡ after (after u a) b
+after_then : (u : Table) (a b : Made) → a.refused ≡ None → after u (then a b) ≡ after (after u a) b
 after_then u a b e = ap (after u) (then-goes a b e) ∙ applied-append u a.grants b.grants
 
 -- a step that leaves the switches as they are, and one after it that does
 then_keeps : (u : Table) (a b : Made) (o : Option Refusal) → a.refused ≡ o → (after u a).switches ≡ u.switches
-    → (a.refused ≡ none → (after (after u a) b).switches ≡ (after u a).switches) → (after u (then a b)).switches ≡ u.switches
-then_keeps u a b none e f g = ap (λ (t : Table). t.switches) (after_then u a b e) ∙ g e ∙ f
-then_keeps u a b (some cause) e f g = ap (λ (x : Made). (after u x).switches) (then-stops a b e) ∙ f
+    → (a.refused ≡ None → (after (after u a) b).switches ≡ (after u a).switches) → (after u (then a b)).switches ≡ u.switches
+then_keeps u a b None e f g = ap (λ (t : Table). t.switches) (after_then u a b e) ∙ g e ∙ f
+then_keeps u a b (Some cause) e f g = ap (λ (x : Made). (after u x).switches) (then-stops a b e) ∙ f
 
 insert-by : (over : Bool) (e : Entry) (u : Table)
-    → (after u (cond over (refused_by TableFull) (record { acts = []; grants = insert e ∷ []; asked = 0; refused = none }))).switches ≡ u.switches
+    → (after u (cond over (refused_by TableFull) (record { acts = []; grants = insert e ∷ []; asked = 0; refused = None }))).switches ≡ u.switches
 unfolding apply_acts apply_act inserted inserted_by
 insert-by true e u = refl
 insert-by false e u = refl
@@ -84,14 +84,14 @@ insert-keeps : (e : Entry) (u : Table) → (after u (granted_by (insert e) u)).s
 unfolding granted_by
 insert-keeps e u = insert-by (act_overflows u (insert e)) e u
 
-granted-is : (over : Bool) (act : Act) (u : Table) → (cond over (refused_by TableFull) (record { acts = []; grants = act ∷ []; asked = 0; refused = none })).refused ≡ none
-    → after u (cond over (refused_by TableFull) (record { acts = []; grants = act ∷ []; asked = 0; refused = none })) ≡ apply_act u act
+granted-is : (over : Bool) (act : Act) (u : Table) → (cond over (refused_by TableFull) (record { acts = []; grants = act ∷ []; asked = 0; refused = None })).refused ≡ None
+    → after u (cond over (refused_by TableFull) (record { acts = []; grants = act ∷ []; asked = 0; refused = None })) ≡ apply_act u act
 unfolding apply_acts
 granted-is true act u e = let z : ◌≡◌ {A = ℕ} 0 1 = cc in absurd (omega arith)
 granted-is false act u e = refl
 
 -- what an act on the child leaves, where it has room
-granted-after : (act : Act) (u : Table) → (granted_by act u).refused ≡ none → after u (granted_by act u) ≡ apply_act u act
+granted-after : (act : Act) (u : Table) → (granted_by act u).refused ≡ None → after u (granted_by act u) ≡ apply_act u act
 unfolding granted_by
 granted-after act u e = granted-is (act_overflows u act) act u e
 
@@ -103,7 +103,7 @@ inserts-keep (e ∷ es) u =
     (λ o. rw (granted-after (insert e) u o) (inserts-keep es (apply_act u (insert e))))
 
 -- what the child takes over sets its switches once
-takes-switches : (t u : Table) → (take_over t u).refused ≡ none → (after u (take_over t u)).switches ≡ child_switches t.switches u.switches
+takes-switches : (t u : Table) → (take_over t u).refused ≡ None → (after u (take_over t u)).switches ≡ child_switches t.switches u.switches
 unfolding take_over take_over_acts granting reinserts apply_act
 takes-switches t u e = by (granted_by act u).refused refl e
   where
@@ -113,12 +113,12 @@ takes-switches t u e = by (granted_by act u).refused refl e
     rest : Made
     rest = granting (inserts (without (λ e. is_granted e.kind) t.entries)) (apply_act u act)
 
-    by : (o : Option Refusal) → (granted_by act u).refused ≡ o → (then (granted_by act u) rest).refused ≡ none
+    by : (o : Option Refusal) → (granted_by act u).refused ≡ o → (then (granted_by act u) rest).refused ≡ None
         → (after u (then (granted_by act u) rest)).switches ≡ child_switches t.switches u.switches
-    by none f g =
+    by None f g =
         ap (λ (x : Table). x.switches) (after_then u (granted_by act u) rest f)
         ∙ rw (granted-after act u f) (inserts-keep (without (λ e. is_granted e.kind) t.entries) (apply_act u act))
-    by (some cause) f g = let z : ◌≡◌ {A = ℕ} 0 1 = cc (ap (λ (x : Made). x.refused) (then-stops (granted_by act u) rest f)) in absurd (omega arith)
+    by (Some cause) f g = let z : ◌≡◌ {A = ℕ} 0 1 = cc (ap (λ (x : Made). x.refused) (then-stops (granted_by act u) rest f)) in absurd (omega arith)
 
 -- ---- an Inherit child
 
@@ -132,7 +132,7 @@ same-switches s = by (has s granted) refl
     by false e = rw e
 
 -- it has its parent's switches
-pub inherit-switches : (numbers : Numbering) (t : Table) (cwd : List ℕ) → (create_child numbers t (record { arg = Inherit; items = [] }) cwd).refused ≡ none
+pub inherit-switches : (numbers : Numbering) (t : Table) (cwd : List ℕ) → (create_child numbers t (record { arg = Inherit; items = [] }) cwd).refused ≡ None
     → (apply_acts (first_child Inherit t) (create_child numbers t (record { arg = Inherit; items = [] }) cwd).grants).switches ≡ t.switches
 unfolding create_child completed all_items first_child onward apply_acts
 inherit-switches numbers t cwd e = takes-switches t t e ∙ same-switches t.switches
@@ -162,8 +162,8 @@ passed-keeps state q u = passed-by (passes state) (record { kind = G; path = q }
 
 item-keeps : (r : Result Decision) (q : List ℕ) (u : Table) → (after u (item_by r (query_of Path q) u)).switches ≡ u.switches
 unfolding item_by
-item-keeps (refused cause) q u = unfold apply_acts in refl
-item-keeps (ok decision) q u =
+item-keeps (Err cause) q u = unfold apply_acts in refl
+item-keeps (Ok decision) q u =
     then_keeps u (checked decision) _ _ refl (unfold checked apply_acts in refl)
     (λ o. unfold checked apply_acts in passed-keeps decision.state q u)
 
@@ -177,7 +177,7 @@ list-keeps cwd bytes from (end ∷ ends) (response ∷ responses) numbers t u =
 
 -- it never has switch 1, whatever its parent was asked on the way
 pub list-without-one : (numbers : Numbering) (t : Table) (bytes ends : List ℕ) (responses : List PromptResponse) (cwd : List ℕ)
-    → (create_child numbers t (record { arg = GrantedList; items = list_items bytes 0 ends responses }) cwd).refused ≡ none
+    → (create_child numbers t (record { arg = GrantedList; items = list_items bytes 0 ends responses }) cwd).refused ≡ None
     → has (apply_acts fresh (create_child numbers t (record { arg = GrantedList; items = list_items bytes 0 ends responses }) cwd).grants).switches granted ≡ false
 unfolding create_child completed first_child
 list-without-one numbers t bytes ends responses cwd e = by items.refused refl
@@ -189,9 +189,9 @@ list-without-one numbers t bytes ends responses cwd e = by items.refused refl
     over = take_over (apply_acts t items.acts) (apply_acts fresh items.grants)
 
     by : (o : Option Refusal) → items.refused ≡ o → has (after fresh (then items over)).switches granted ≡ false
-    by none f =
+    by None f =
         ap (λ (x : Table). has x.switches granted) (after_then fresh items over f)
         ∙ ap (λ (n : ℕ). has n granted) (takes-switches _ _ (sym (ap (λ (x : Made). x.refused) (then-goes items over f)) ∙ e))
         ∙ ap (λ (n : ℕ). has (child_switches (apply_acts t items.acts).switches n) granted) (list-keeps cwd bytes 0 ends responses numbers t fresh)
         ∙ own-none (apply_acts t items.acts).switches
-    by (some cause) f = let z : ◌≡◌ {A = ℕ} 0 1 = cc (ap (λ (x : Made). x.refused) (then-stops items over f)) in absurd (omega arith)
+    by (Some cause) f = let z : ◌≡◌ {A = ℕ} 0 1 = cc (ap (λ (x : Made). x.refused) (then-stops items over f)) in absurd (omega arith)

@@ -1,14 +1,14 @@
 -- Laws of the whole child call: the memory that its items leave, its checking order, and what it answers and leaves.
+use Rattle.std.specs.Prelude.{Option, None, Some, Ok, Err}
 use Prim.Native.Nat.{ℕ, ◌≤◌, ◌<◌}
 use mathlib.Core.Path.{◌≡◌, refl, sym, ap, subst, ◌∙◌}
 use mathlib.Core.List.{List, [], ◌∷◌, append-nil}
-use mathlib.Core.Option.{Option, none, some}
 use mathlib.Core.Bool.{true, false}
 use native.Mathlib.Omega.{arith}
 use lib.ListN.{length}
 use Rattle.refusals.specs.declared.Refusal.{Refusal}
 use Rattle.refusals.specs.declared.Refusal.TheVariants.{NoTable, NoSpace, Unknown}
-use Rattle.refusals.specs.Refusals.{Result, refused, ok, and_then}
+use Rattle.refusals.specs.Refusals.{Result, and_then}
 use Rattle.table.specs.declared.Outcome.{Outcome}
 use Rattle.table.specs.Tables.{Table, is_table}
 use Rattle.table.specs.Acts.{apply_acts}
@@ -48,10 +48,10 @@ pub record Left (made : Made) (m c : List ℕ) : Type 0 where
   pub child : Acted c made.grants
 
 pub left-then : (a b : Made) (o : Option Refusal) {m c : List ℕ} → a.refused ≡ o → Left a m c → Left b (do_acts m a.acts) (do_acts c a.grants) → Left (then a b) m c
-left-then a b none {m} {c} e A B =
+left-then a b None {m} {c} e A B =
     subst (λ (x : Made). Left x m c) (sym (then-goes a b e))
     (record { parent = acted-append a.acts b.acts A.parent B.parent; child = acted-append a.grants b.grants A.child B.child })
-left-then a b (some cause) {m} {c} e A B = subst (λ (x : Made). Left x m c) (sym (then-stops a b e)) A
+left-then a b (Some cause) {m} {c} e A B = subst (λ (x : Made). Left x m c) (sym (then-stops a b e)) A
 
 pub items_left : (numbers : Numbering) (cwd : List ℕ) (items : List Item) (m c : List ℕ) → holds m ≡ true → holds c ≡ true → Left (all_items numbers cwd items (table_of m) (table_of c)) m c
 unfolding all_items
@@ -82,44 +82,44 @@ module _ (arg : ChildUnaryPermissionArg) (m c : List ℕ) {c₁ : List ℕ} (h :
 -- ---- the checking order
 
 module _ (link : Link) (l : Lent) (c : List ℕ) (code : ℕ) (bytes ends responses cwd : List ℕ) where
-  pub child-no-table : holds l.memory ≡ false → child_call link l c code (item_list bytes ends responses) cwd ≡ refused NoTable
+  pub child-no-table : holds l.memory ≡ false → child_call link l c code (item_list bytes ends responses) cwd ≡ Err NoTable
   unfolding child_call and_then
   child-no-table h = rw (no_table l.memory h)
 
   module _ (h : holds l.memory ≡ true) where
-    pub child-small : length c < table_bytes → child_call link l c code (item_list bytes ends responses) cwd ≡ refused NoTable
+    pub child-small : length c < table_bytes → child_call link l c code (item_list bytes ends responses) cwd ≡ Err NoTable
     unfolding child_call and_then
     child-small short = rw (a-table l.memory h, fresh-short c short)
 
     module _ (long : table_bytes ≤ length c) where
-      pub child-short : lacks_room (length ends) link l.words ≡ true → child_call link l c code (item_list bytes ends responses) cwd ≡ refused NoSpace
+      pub child-short : lacks_room (length ends) link l.words ≡ true → child_call link l c code (item_list bytes ends responses) cwd ≡ Err NoSpace
       unfolding child_call and_then
       child-short e = rw (a-table l.memory h, fresh-long c long, room-short (length ends) link l.words e)
 
       pub child-unlinked : lacks_room (length ends) link l.words ≡ false → lacks_run link ≡ true
-          → child_call link l c code (item_list bytes ends responses) cwd ≡ refused Unknown
+          → child_call link l c code (item_list bytes ends responses) cwd ≡ Err Unknown
       unfolding child_call and_then
       child-unlinked e f = rw (a-table l.memory h, fresh-long c long, room-long (length ends) link l.words e, run-unknown link l.number f)
 
       module _ (A : Admits (length ends) link l.words) where
-        pub child-unknown : {cause : Refusal} → arguments_of code bytes ends responses ≡ refused cause
-            → child_call link l c code (item_list bytes ends responses) cwd ≡ refused cause
+        pub child-unknown : {cause : Refusal} → arguments_of code bytes ends responses ≡ Err cause
+            → child_call link l c code (item_list bytes ends responses) cwd ≡ Err cause
         unfolding child_call and_then
         child-unknown e = rw (a-table l.memory h, fresh-long c long, room-long (length ends) link l.words A.roomy, run-known link l.number A.run, e)
 
-        pub child-known : (args : Arguments) → arguments_of code bytes ends responses ≡ ok args
-            → child_call link l c code (item_list bytes ends responses) cwd ≡ ok (creation (numbering link l.number) (table_of l.memory) cwd args)
+        pub child-known : (args : Arguments) → arguments_of code bytes ends responses ≡ Ok args
+            → child_call link l c code (item_list bytes ends responses) cwd ≡ Ok (creation (numbering link l.number) (table_of l.memory) cwd args)
         unfolding child_call and_then
         child-known args e = rw (a-table l.memory h, fresh-long c long, room-long (length ends) link l.words A.roomy, run-known link l.number A.run, e)
 
 -- ---- what the call answers and leaves
 
-pub refused-creates : {call : Result Creation} {c : List ℕ} {cause : Refusal} {a : ChildMade} → call ≡ refused cause → a ≡ made_refused cause 0 → Creates call c c a
+pub refused-creates : {call : Result Creation} {c : List ℕ} {cause : Refusal} {a : ChildMade} → call ≡ Err cause → a ≡ made_refused cause 0 → Creates call c c a
 unfolding refusal_in times_asked child_after outcome_of
 refused-creates e f = rw f (record { outcome = rw e; asked = rw e; child = rw e })
 
 pub creates-refused : {link : Link} {l : Lent} {c : List ℕ} {code : ℕ} {bytes ends responses cwd : List ℕ} {cause : Refusal} {a : ChildSent}
-    → child_call link l c code (item_list bytes ends responses) cwd ≡ refused cause → a ≡ child_refused cause 0 0 → CreatesChild link l c code (item_list bytes ends responses) cwd l c a
+    → child_call link l c code (item_list bytes ends responses) cwd ≡ Err cause → a ≡ child_refused cause 0 0 → CreatesChild link l c code (item_list bytes ends responses) cwd l c a
 unfolding child_acts
 creates-refused e f = rw f (record { creates = refused-creates e refl; sends = sends-nothing (rw e) })
 
@@ -141,13 +141,13 @@ pub record Ends (all after : Made) (asked : ℕ) (items : Made) : Type 0 where
 pub ends : (items rest : Made) (o : Option Refusal) → items.refused ≡ o → rest.asked ≡ 0 → rest.acts ≡ []
     → Ends (then items rest) (after_items (outcome_of o) rest) items.asked items
 unfolding outcome_of after_items do_acts
-ends items rest none e f g = record {
+ends items rest None e f g = record {
   refusal = ap (λ (x : Made). x.refused) (then-goes items rest e);
   times = ap (λ (x : Made). x.asked) (then-goes items rest e) ∙ rw f (omega arith);
   acts = ap (λ (x : Made). x.acts) (then-goes items rest e) ∙ rw g (append-nil items.acts);
   grants = λ c. ap (λ (x : Made). do_acts c x.grants) (then-goes items rest e) ∙ acts-append c items.grants rest.grants;
 }
-ends items rest (some cause) e f g = record {
+ends items rest (Some cause) e f g = record {
   refusal = ap (λ (x : Made). x.refused) (then-stops items rest e) ∙ e;
   times = ap (λ (x : Made). x.asked) (then-stops items rest e);
   acts = ap (λ (x : Made). x.acts) (then-stops items rest e);
@@ -158,7 +158,7 @@ ends items rest (some cause) e f g = record {
 pub record Ran (numbers : Numbering) (m c : List ℕ) (code : ℕ) (bytes ends responses cwd : List ℕ) (args : Arguments) (c₁ m' c₂ : List ℕ) (r : ChildMade) : Type 0 where
   pub holding : holds m ≡ true
   pub long : table_bytes ≤ length c
-  pub read : arguments_of code bytes ends responses ≡ ok args
+  pub read : arguments_of code bytes ends responses ≡ Ok args
   pub begun : c₁ ≡ put (first_child args.arg (table_of m)) c
   pub made : Makes (all_items numbers cwd args.items (table_of m) (table_of c₁)) m c₁ m' c₂ r
 
@@ -193,16 +193,16 @@ module _ {numbers : Numbering} {m c : List ℕ} {code : ℕ} {bytes ends_of resp
   made-is = rw (rest-is, ← first-is args.arg m c R.holding R.long R.begun)
 
   -- the acts on the parent are those of the items
-  acts-are : {call : Result Creation} → call ≡ ok (creation numbers (table_of m) cwd args) → child_acts call ≡ items.acts
+  acts-are : {call : Result Creation} → call ≡ Ok (creation numbers (table_of m) cwd args) → child_acts call ≡ items.acts
   unfolding child_acts creation
   acts-are call =
       let E = ends items (take_over (table_of m') (table_of c₂)) items.refused refl (over-asked (table_of m') (table_of c₂)) (over-acts (table_of m') (table_of c₂)) in
       rw call (ap (λ (x : Made). x.acts) made-is ∙ E.acts)
 
-  parent_by : {call : Result Creation} → call ≡ ok (creation numbers (table_of m) cwd args) → m' ≡ do_acts m (child_acts call)
+  parent_by : {call : Result Creation} → call ≡ Ok (creation numbers (table_of m) cwd args) → m' ≡ do_acts m (child_acts call)
   parent_by call = R.made.parent ∙ ap (do_acts m) (sym (acts-are call))
 
-  creates-by : {call : Result Creation} {c₃ : List ℕ} {a : ChildMade} → call ≡ ok (creation numbers (table_of m) cwd args)
+  creates-by : {call : Result Creation} {c₃ : List ℕ} {a : ChildMade} → call ≡ Ok (creation numbers (table_of m) cwd args)
       → Completes (after_items r.outcome (take_over (table_of m') (table_of c₂))) r.asked c₂ c₃ a → Creates call c c₃ a
   unfolding refusal_in times_asked child_after creation
   creates-by call C =

@@ -1,13 +1,12 @@
 -- Laws of the items of a linked child call: what one sends, and the items of a list in turn.
+use Rattle.std.specs.Prelude.{Option, None, Some, Ok}
 use Prim.Native.Nat.{ℕ, ◌+◌, ◌-◌, ◌*◌, ◌≤◌, ◌<◌}
 use mathlib.Core.Path.{◌≡◌, refl, sym, ap, subst, ◌∙◌}
 use mathlib.Core.List.{List, [], append-nil}
-use mathlib.Core.Option.{Option, none, some}
 use mathlib.Core.Bool.{Bool, true}
 use native.Mathlib.Omega.{arith}
 use lib.ListN.{length, get_or, take, drop, drop_of_length-le}
 use Rattle.refusals.specs.declared.Refusal.{Refusal}
-use Rattle.refusals.specs.Refusals.{ok}
 use Rattle.paths.specs.declared.Descriptor.{Descriptor}
 use Rattle.paths.specs.declared.Descriptor.TheVariants.{NoPath, Path}
 use Rattle.paths.specs.Giving.{query_of}
@@ -79,7 +78,7 @@ pub record GoingSent (cwd bytes ends responses m₀ c₀ : List ℕ) (link : Lin
   pub same-words : length w ≡ length w₀
   pub tested : Admits (length ends) link w
   pub few : at ≤ record_space * i
-  pub goes : (known : List PromptResponse) → known_responses responses ≡ ok known → (n' : ℕ) (w' : List ℕ) (r : ℕ)
+  pub goes : (known : List PromptResponse) → known_responses responses ≡ Ok known → (n' : ℕ) (w' : List ℕ) (r : ℕ)
       → Records link (all_items (numbering link n) cwd (list_items bytes from (drop i ends) (drop i known)) (table_of m) (table_of c)).acts n w at n' w' r
       → Records link (all_items (numbering link n₀) cwd (list_items bytes 0 ends known) (table_of m₀) (table_of c₀)).acts n₀ w₀ 0 n' w' r
 
@@ -118,7 +117,7 @@ module _ {cwd bytes ends responses m₀ c₀ : List ℕ} {link : Link} {n₀ : �
     sent-child = going-child G.items h l e f A.sent.makes
 
     pub sent-stops : {cause : Refusal} {k : ℕ} {a : ChildSent} → r.made.outcome ≡ outcome.Refused cause → k ≡ asked + r.made.asked → a ≡ child_refused cause k r.words
-        → (known : List PromptResponse) → known_responses responses ≡ ok known
+        → (known : List PromptResponse) → known_responses responses ≡ Ok known
         → MakesSent (all_items (numbering link n₀) cwd (list_items bytes 0 ends known) (table_of m₀) (table_of c₀)) link (lent m₀ n₀ w₀) c₀ 0 (lent m₁ n₁ w₁) c₁ a
     sent-stops o k g known j =
         let stops = first-item G.items h l e f known j ∙ then-stops step _ (outcome-refused step.refused (sym A.sent.makes.outcome ∙ o)) in
@@ -149,7 +148,7 @@ module _ {cwd bytes ends responses m₀ c₀ : List ℕ} {link : Link} {n₀ : �
 
 pub sent-done : {cwd bytes ends responses m₀ c₀ : List ℕ} {link : Link} {n₀ : ℕ} {w₀ m c : List ℕ} {n : ℕ} {w : List ℕ} {asked at from i : ℕ}
     → GoingSent cwd bytes ends responses m₀ c₀ link n₀ w₀ m c n w asked at from i → length ends ≤ i → {a : ChildSent} → a ≡ child_done asked at
-    → (known : List PromptResponse) → known_responses responses ≡ ok known
+    → (known : List PromptResponse) → known_responses responses ≡ Ok known
     → MakesSent (all_items (numbering link n₀) cwd (list_items bytes 0 ends known) (table_of m₀) (table_of c₀)) link (lent m₀ n₀ w₀) c₀ 0 (lent m n w) c a
 unfolding list_items all_items
 sent-done {ends = ends} {link = link} {n = n} {w = w} {at = at} G l e known k =
@@ -173,11 +172,11 @@ module _ {arg : ChildUnaryPermissionArg} (cwd bytes ends : List ℕ) (known : Li
   sent-refused e f = rw f (record { makes = all-refused (numbering link n) cwd bytes ends known e refl; records = rw e (records-none link n w 0) })
 
 alone-acts : (a : Made) (o : Option Refusal) → a.refused ≡ o → (then a nothing).acts ≡ a.acts
-alone-acts a none e = ap (λ (x : Made). x.acts) (then-goes a nothing e) ∙ append-nil a.acts
-alone-acts a (some cause) e = ap (λ (x : Made). x.acts) (then-stops a nothing e)
+alone-acts a None e = ap (λ (x : Made). x.acts) (then-goes a nothing e) ∙ append-nil a.acts
+alone-acts a (Some cause) e = ap (λ (x : Made). x.acts) (then-stops a nothing e)
 
 pub sent-one : {arg : ChildUnaryPermissionArg} (cwd bytes ends responses : List ℕ) (known : List PromptResponse) {response : PromptResponse} {m c : List ℕ} {link : Link} {n : ℕ} {w m' c' : List ℕ} {n' : ℕ} {w' : List ℕ} {r : ChildSent}
-    → arg ≡ Granted → 0 < length responses → known_responses responses ≡ ok known → response_of (get_or responses 0 0) ≡ response-read.Response response
+    → arg ≡ Granted → 0 < length responses → known_responses responses ≡ Ok known → response_of (get_or responses 0 0) ≡ response-read.Response response
     → SendsItem cwd (record { descriptor = NoPath; given = []; response = response }) link (lent m n w) c 0 (lent m' n' w') c' r
     → MakesSent (all_items (numbering link n) cwd (items_of arg bytes ends known) (table_of m) (table_of c)) link (lent m n w) c 0 (lent m' n' w') c' r
 unfolding items_of granted_item all_items

@@ -1,13 +1,13 @@
 -- Laws of the items: what the parent's check of one and the child's grant come to, and the items of a list in turn.
+use Rattle.std.specs.Prelude.{Option, None, Some, Ok, Err}
 use Prim.Native.Nat.{ℕ, ◌+◌, ◌-◌, ◌≤◌, ◌<◌}
 use mathlib.Core.Path.{◌≡◌, refl, sym, ap, subst, ◌∙◌}
 use mathlib.Core.List.{List, [], ◌∷◌, append-nil}
-use mathlib.Core.Option.{Option, none, some}
 use mathlib.Core.Bool.{Bool, true, false}
 use native.Mathlib.Omega.{arith}
 use lib.ListN.{length, get_or, take, drop, drop_of_length-le}
 use Rattle.refusals.specs.declared.Refusal.{Refusal}
-use Rattle.refusals.specs.Refusals.{Result, refused, ok}
+use Rattle.refusals.specs.Refusals.{Result}
 use Rattle.paths.specs.declared.Descriptor.{Descriptor}
 use Rattle.paths.specs.declared.Descriptor.TheVariants.{NoPath, Path}
 use Rattle.paths.specs.Resolving.{resolve}
@@ -50,11 +50,11 @@ pub stands-query : {d : Descriptor} {p cwd : List ℕ} {n : ℕ} {s : List ℕ} 
 stands-query {d = NoPath} S = unfold query_of in refl
 stands-query {d = Path} S = ap (query_of Path) (S.bytes refl)
 
-item-outcome : (decision : Decision) (q : Query) (u : Table) → (item_by (ok decision) q u).refused ≡ (passed_on decision.state q u).refused
+item-outcome : (decision : Decision) (q : Query) (u : Table) → (item_by (Ok decision) q u).refused ≡ (passed_on decision.state q u).refused
 unfolding item_by checked onward
 item-outcome decision q u = refl
 
-item-asked : (decision : Decision) (q : Query) (u : Table) → (item_by (ok decision) q u).asked ≡ count_of decision.asked
+item-asked : (decision : Decision) (q : Query) (u : Table) → (item_by (Ok decision) q u).asked ≡ count_of decision.asked
 unfolding item_by checked onward
 item-asked decision q u = rw (passed-asked decision.state q u) (omega arith)
 
@@ -97,10 +97,10 @@ module _ (numbers : Numbering) (cwd : List ℕ) (i : Item) (m c : List ℕ) (h :
 
   child-by : (r : Result Decision) → settled Check numbers (table_of m) i.descriptor i.given cwd i.response ≡ r
       → Acted c (item_by r (query_of i.descriptor (resolve i.given cwd)) (table_of c)).grants
-  child-by (refused cause) e = unfold item_by in acted-none c k
-  child-by (ok decision) e =
+  child-by (Err cause) e = unfold item_by in acted-none c k
+  child-by (Ok decision) e =
       let S = decided-stands Check numbers (table_of m) i.descriptor i.given cwd i.response [] e in
-      rw (item-grants (ok decision) (query_of i.descriptor (resolve i.given cwd)) (table_of c) {decision = decision} refl)
+      rw (item-grants (Ok decision) (query_of i.descriptor (resolve i.given cwd)) (table_of c) {decision = decision} refl)
       (pass-acted decision.state _ c k (rw (stands-query S) at S.fits))
 
   pub item-child : Acted c (item_step numbers cwd i (table_of m) (table_of c)).grants
@@ -108,8 +108,8 @@ module _ (numbers : Numbering) (cwd : List ℕ) (i : Item) (m c : List ℕ) (h :
   item-child = child-by (settled Check numbers (table_of m) i.descriptor i.given cwd i.response) refl
 
 asked_by : (r : Result Decision) (q : Query) (u : Table) → (item_by r q u).asked ≤ 1
-asked_by (refused cause) q u = unfold item_by in omega arith
-asked_by (ok decision) q u = rw (item-asked decision q u) (count_small decision.asked)
+asked_by (Err cause) q u = unfold item_by in omega arith
+asked_by (Ok decision) q u = rw (item-asked decision q u) (count_small decision.asked)
   where
     count_small : (b : Bool) → count_of b ≤ 1
     count_small true = unfold count_of in omega arith
@@ -154,7 +154,7 @@ pub record Going (numbers₀ numbers : Numbering) (cwd bytes ends responses m₀
   pub child-length : length c ≡ length c₀
   pub few : asked ≤ i
   pub closes : close_at (length bytes) from (drop i ends) ≡ true
-  pub goes : (known : List PromptResponse) → known_responses responses ≡ ok known → (m' c' : List ℕ) (r : ChildMade)
+  pub goes : (known : List PromptResponse) → known_responses responses ≡ Ok known → (m' c' : List ℕ) (r : ChildMade)
       → Makes (counted asked (all_items numbers cwd (list_items bytes from (drop i ends) (drop i known)) (table_of m) (table_of c))) m c m' c' r
       → Makes (all_items numbers₀ cwd (list_items bytes 0 ends known) (table_of m₀) (table_of c₀)) m₀ c₀ m' c' r
 
@@ -173,7 +173,7 @@ going_start numbers cwd bytes ends responses m c h k e = record {
 
 -- the next item of the list
 pub next-item : (cwd bytes : List ℕ) (from : ℕ) (ends : List ℕ) (i : ℕ) (responses : List ℕ) (known : List PromptResponse) {response : PromptResponse}
-    → i < length ends → i < length responses → known_responses responses ≡ ok known → response_of (get_or responses i 0) ≡ response-read.Response response
+    → i < length ends → i < length responses → known_responses responses ≡ Ok known → response_of (get_or responses i 0) ≡ response-read.Response response
     → list_items bytes from (drop i ends) (drop i known)
     ≡ record { descriptor = Path; given = take (get_or ends i 0 - from) (drop from bytes); response = response }
     ∷ list_items bytes (get_or ends i 0) (drop (i + 1) ends) (drop (i + 1) known)
@@ -186,7 +186,7 @@ module _ {numbers₀ numbers : Numbering} {cwd bytes ends responses m₀ c₀ m 
   abbrev item : Item
   item = record { descriptor = Path; given = take (end - from) (drop from bytes); response = response }
 
-  pub first-item : (known : List PromptResponse) → known_responses responses ≡ ok known
+  pub first-item : (known : List PromptResponse) → known_responses responses ≡ Ok known
       → all_items numbers cwd (list_items bytes from (drop i ends) (drop i known)) (table_of m) (table_of c)
       ≡ then (item_step numbers cwd item (table_of m) (table_of c))
       (all_items (past numbers (item_step numbers cwd item (table_of m) (table_of c)).acts) cwd (list_items bytes end (drop (i + 1) ends) (drop (i + 1) known))
@@ -213,7 +213,7 @@ module _ {numbers₀ numbers : Numbering} {cwd bytes ends responses m₀ c₀ m 
     going-child = ap length A.child ∙ left-child.same ∙ G.child-length
 
     pub going-stops : {cause : Refusal} {n : ℕ} {a : ChildMade} → r.outcome ≡ outcome.Refused cause → n ≡ asked + r.asked → a ≡ made_refused cause n
-        → (known : List PromptResponse) → known_responses responses ≡ ok known
+        → (known : List PromptResponse) → known_responses responses ≡ Ok known
         → Makes (all_items numbers₀ cwd (list_items bytes 0 ends known) (table_of m₀) (table_of c₀)) m₀ c₀ m₁ c₁ a
     going-stops o n g known k = G.goes known k m₁ c₁ _ (rw (g, first-item known k) (makes-stop asked A _ o n))
 
@@ -233,7 +233,7 @@ module _ {numbers₀ numbers : Numbering} {cwd bytes ends responses m₀ c₀ m 
     }
 
 pub going_done : {numbers₀ numbers : Numbering} {cwd bytes ends responses m₀ c₀ m c : List ℕ} {asked from i : ℕ} → Going numbers₀ numbers cwd bytes ends responses m₀ c₀ m c asked from i → length ends ≤ i
-    → {a : ChildMade} → a ≡ made_done asked → (known : List PromptResponse) → known_responses responses ≡ ok known
+    → {a : ChildMade} → a ≡ made_done asked → (known : List PromptResponse) → known_responses responses ≡ Ok known
     → Makes (all_items numbers₀ cwd (list_items bytes 0 ends known) (table_of m₀) (table_of c₀)) m₀ c₀ m c a
 unfolding counted list_items all_items outcome_of do_acts
 going_done {ends = ends} {m = m} {c = c} {asked = asked} G l e known k =
@@ -253,7 +253,7 @@ module _ (numbers : Numbering) {arg : ChildUnaryPermissionArg} (cwd bytes ends :
 
 -- one
 makes-alone : (a : Made) (o : Option Refusal) {m c m' c' : List ℕ} {r : ChildMade} → a.refused ≡ o → Makes a m c m' c' r → Makes (then a nothing) m c m' c' r
-makes-alone a none {m} {c} {m'} {c'} {r} e A =
+makes-alone a None {m} {c} {m'} {c'} {r} e A =
     subst (λ (x : Made). Makes x m c m' c' r) (sym (then-goes a nothing e))
     (record {
       outcome = A.outcome ∙ ap outcome_of e;
@@ -261,10 +261,10 @@ makes-alone a none {m} {c} {m'} {c'} {r} e A =
       parent = A.parent ∙ ap (do_acts m) (sym (append-nil a.acts));
       child = A.child ∙ ap (do_acts c) (sym (append-nil a.grants));
     })
-makes-alone a (some cause) {m} {c} {m'} {c'} {r} e A = subst (λ (x : Made). Makes x m c m' c' r) (sym (then-stops a nothing e)) A
+makes-alone a (Some cause) {m} {c} {m'} {c'} {r} e A = subst (λ (x : Made). Makes x m c m' c' r) (sym (then-stops a nothing e)) A
 
 pub all_one : (numbers : Numbering) {arg : ChildUnaryPermissionArg} (cwd bytes ends responses : List ℕ) (known : List PromptResponse) {response : PromptResponse} {m c m' c' : List ℕ} {r : ChildMade}
-    → arg ≡ Granted → 0 < length responses → known_responses responses ≡ ok known → response_of (get_or responses 0 0) ≡ response-read.Response response
+    → arg ≡ Granted → 0 < length responses → known_responses responses ≡ Ok known → response_of (get_or responses 0 0) ≡ response-read.Response response
     → Makes (item_step numbers cwd (record { descriptor = NoPath; given = []; response = response }) (table_of m) (table_of c)) m c m' c' r
     → Makes (all_items numbers cwd (items_of arg bytes ends known) (table_of m) (table_of c)) m c m' c' r
 unfolding items_of granted_item all_items

@@ -1,16 +1,16 @@
 -- What a child call keeps: the parent's memory holds a table and loses no mark, and unless the call is refused before any item the child's memory
 -- holds a table too.
+use Rattle.std.specs.Prelude.{Option, None, Some, Ok, Err}
 use Prim.Native.Nat.{ℕ, ◌≤◌}
 use mathlib.Core.Path.{◌≡◌, refl, sym, subst, ◌∙◌}
 use mathlib.Core.List.{List, [], ◌∷◌}
-use mathlib.Core.Option.{Option, none, some}
 use mathlib.Core.Bool.{Bool, true, false}
 use native.Mathlib.Omega.{arith}
 use lib.ListN.{length}
 use borrow.Author.Tests.{ltb-false}
 use Rattle.refusals.specs.declared.Refusal.{Refusal}
 use Rattle.refusals.specs.declared.Refusal.TheVariants.{NoTable}
-use Rattle.refusals.specs.Refusals.{Result, refused, ok, and_then}
+use Rattle.refusals.specs.Refusals.{Result, and_then}
 use Rattle.refusals.proofs.CauseLaws.{no-cause-head, unless-ok}
 use Rattle.paths.proofs.ComponentLaws.{and_left, and_right}
 use Rattle.table.specs.Entries.{Entry, is_granted}
@@ -44,9 +44,9 @@ data AllActs : List Act → Type 0 where
 granting-more : (act : Act) (acts : List Act) (c : List ℕ) → holds c ≡ true → is_act act ≡ true → (o : Option Refusal) → (granted_by act (table_of c)).refused ≡ o
     → ((c₁ : List ℕ) → holds c₁ ≡ true → Acted c₁ (granting acts (table_of c₁)).grants)
     → Acted c (then (granted_by act (table_of c)) (granting acts (apply_act (table_of c) act))).grants
-granting-more act acts c h f (some cause) e k =
+granting-more act acts c h f (Some cause) e k =
     subst (λ (x : Made). Acted c x.grants) (sym (then-stops (granted_by act (table_of c)) _ e)) (grant-acted act c h f)
-granting-more act acts c h f none e k =
+granting-more act acts c h f None e k =
     let first = granted_by act (table_of c) in
     let A = grant-acted act c h f in
     let table : table_of (do_acts c first.grants) ≡ apply_act (table_of c) act = A.table ∙ one-act (grant-one act (table_of c) e) in
@@ -102,7 +102,7 @@ created numbers m c cwd args h k =
     let rest = over-acted (do_acts m items.acts) (do_acts c items.grants) L.parent.holding L.child.holding in
     left-then items _ items.refused refl L (rw (L.parent.table, L.child.table) at rest)
 
-long-by : (c : List ℕ) {t : Table} → fresh_in c ≡ ok t → table_bytes ≤ length c
+long-by : (c : List ℕ) {t : Table} → fresh_in c ≡ Ok t → table_bytes ≤ length c
 unfolding fresh_in
 long-by c e = ltb-false _ _ (no-cause-head _ NoTable [] (unless-ok _ fresh e).0)
 
@@ -118,12 +118,12 @@ module _ (numbers : Numbering) (m c cwd : List ℕ) (args : Arguments) (h : hold
   unfolding create_child
   both = rw (table_of-put (first_child args.arg (table_of m)) c) at (created numbers m first cwd args h first_holds)
 
-no-acts : (cause : Refusal) → child_acts (refused cause) ≡ []
+no-acts : (cause : Refusal) → child_acts (Err cause) ≡ []
 unfolding child_acts
 no-acts cause = refl
 
 made-acted : (numbers : Numbering) (m c cwd : List ℕ) (args : Arguments) → holds m ≡ true → table_bytes ≤ length c
-    → Acted m (child_acts (ok (creation numbers (table_of m) cwd args)))
+    → Acted m (child_acts (Ok (creation numbers (table_of m) cwd args)))
 unfolding child_acts creation
 made-acted numbers m c cwd args h long = (both numbers m c cwd args h long).parent
 
@@ -151,20 +151,20 @@ module _ (link : Link) (l : Lent) (c : List ℕ) (code : ℕ) (list : ItemList) 
 -- the child's memory, whether the call is refused on the way or not
 left-held : (o : Option Refusal) (c : List ℕ) → holds c ≡ true → holds (child_left o c) ≡ true
 unfolding child_left
-left-held none c h = h
-left-held (some cause) c h = holds-put fresh c fresh-table (long_of c h)
+left-held None c h = h
+left-held (Some cause) c h = holds-put fresh c fresh-table (long_of c h)
 
 -- a step that is refused makes no child
 data ChildHeld (c : List ℕ) : Result Creation → Type 0 where
-  not_made : {cause : Refusal} → ChildHeld c (refused cause)
-  made : {s : Creation} → holds (child_left s.made.refused (do_acts (put s.first c) s.made.grants)) ≡ true → ChildHeld c (ok s)
+  not_made : {cause : Refusal} → ChildHeld c (Err cause)
+  made : {s : Creation} → holds (child_left s.made.refused (do_acts (put s.first c) s.made.grants)) ≡ true → ChildHeld c (Ok s)
 
-step-held : {A : Type 0} (c : List ℕ) (a : Result A) (f : A → Result Creation) → ((x : A) → a ≡ ok x → ChildHeld c (f x)) → ChildHeld c (and_then a f)
+step-held : {A : Type 0} (c : List ℕ) (a : Result A) (f : A → Result Creation) → ((x : A) → a ≡ Ok x → ChildHeld c (f x)) → ChildHeld c (and_then a f)
 unfolding and_then
-step-held c (refused cause) f h = not_made
-step-held c (ok x) f h = h x refl
+step-held c (Err cause) f h = not_made
+step-held c (Ok x) f h = h x refl
 
-held-made : {c : List ℕ} {r : Result Creation} (s : Creation) → ChildHeld c r → r ≡ ok s → holds (child_left s.made.refused (do_acts (put s.first c) s.made.grants)) ≡ true
+held-made : {c : List ℕ} {r : Result Creation} (s : Creation) → ChildHeld c r → r ≡ Ok s → holds (child_left s.made.refused (do_acts (put s.first c) s.made.grants)) ≡ true
 held-made s not_made e = let z : ◌≡◌ {A = ℕ} 0 1 = cc in absurd (omega arith)
 held-made {c} s (made {s = x} h) e =
     let same : x ≡ s = cc in
@@ -183,7 +183,7 @@ module _ (link : Link) (l : Lent) (c : List ℕ) (code : ℕ) (list : ItemList) 
       made (rw (← table) (unfold creation in left-held (create_child numbers (table_of l.memory) args cwd).refused _ (both numbers l.memory c cwd args h (long-by c f)).child.holding)))))))
 
   -- it holds a table, unless the call is refused before any item
-  pub child-held : {s : Creation} {l' : Lent} {c' : List ℕ} {r : ChildSent} → child_call link l c code list cwd ≡ ok s
+  pub child-held : {s : Creation} {l' : Lent} {c' : List ℕ} {r : ChildSent} → child_call link l c code list cwd ≡ Ok s
       → CreatesChild link l c code list cwd l' c' r → holds c' ≡ true
   unfolding child_after
   child-held e C = rw (C.creates.child, e) (held-made _ child-made e)

@@ -1,13 +1,13 @@
 -- Laws of the steps of a child call: one after the other in memory, what the child is granted, one item, and the items in turn.
+use Rattle.std.specs.Prelude.{Option, None, Some, Ok, Err}
 use Prim.Native.Nat.{ℕ, ◌+◌}
 use mathlib.Core.Path.{◌≡◌, refl, sym, ap, subst, ◌∙◌}
 use mathlib.Core.List.{List, [], ◌∷◌, ◌++◌, append-nil}
-use mathlib.Core.Option.{Option, none, some}
 use mathlib.Core.Bool.{Bool, true, false, cond}
 use native.Mathlib.Omega.{arith}
 use Rattle.refusals.specs.declared.Refusal.{Refusal}
 use Rattle.refusals.specs.declared.Refusal.TheVariants.{TableFull, NumbersUsedUp, Escalation}
-use Rattle.refusals.specs.Refusals.{when, first_cause, Result, refused, ok}
+use Rattle.refusals.specs.Refusals.{when, first_cause, Result}
 use Rattle.paths.specs.Giving.{Query, is_query}
 use Rattle.table.specs.declared.Outcome.{Outcome}
 use Rattle.table.specs.declared.Outcome.TheVariants as outcome
@@ -26,11 +26,11 @@ use Rattle.child.specs.Steps.{MakesChild}
 
 -- ---- one step after the other
 
-pub then-stops : (a b : Made) {cause : Refusal} → a.refused ≡ some cause → then a b ≡ a
+pub then-stops : (a b : Made) {cause : Refusal} → a.refused ≡ Some cause → then a b ≡ a
 unfolding onward
 then-stops a b e = ap (λ (o : Option Refusal). onward o a b) e
 
-pub then-goes : (a b : Made) → a.refused ≡ none
+pub then-goes : (a b : Made) → a.refused ≡ None
     → then a b ≡ record { acts = a.acts ++ b.acts; grants = a.grants ++ b.grants; asked = a.asked + b.asked; refused = b.refused }
 unfolding onward
 then-goes a b e = ap (λ (o : Option Refusal). onward o a b) e
@@ -49,18 +49,18 @@ module _ {a : Made} {c c₁ : List ℕ} {r : Outcome} (A : MakesChild a c c₁ r
 
 granted-by : (over : Bool) (act : Act) {c c' : List ℕ} {r : Outcome}
     → r ≡ outcome_of (first_cause (when over TableFull ∷ when false NumbersUsedUp ∷ []))
-    → c' ≡ do_acts c (acts_of (first_cause (when over TableFull ∷ when false NumbersUsedUp ∷ [])) (some act))
-    → MakesChild (cond over (refused_by TableFull) (record { acts = []; grants = act ∷ []; asked = 0; refused = none })) c c' r
+    → c' ≡ do_acts c (acts_of (first_cause (when over TableFull ∷ when false NumbersUsedUp ∷ [])) (Some act))
+    → MakesChild (cond over (refused_by TableFull) (record { acts = []; grants = act ∷ []; asked = 0; refused = None })) c c' r
 unfolding first_cause acts_of
 granted-by true act o q = record { outcome = o; child = q }
 granted-by false act o q = record { outcome = o; child = q }
 
-pub grants-carried : {act : Act} {c c' : List ℕ} {r : Outcome} → CarriesOut (some act) c c' r → MakesChild (granted_by act (table_of c)) c c' r
+pub grants-carried : {act : Act} {c c' : List ℕ} {r : Outcome} → CarriesOut (Some act) c c' r → MakesChild (granted_by act (table_of c)) c c' r
 unfolding granted_by room_cause first_cause
 grants-carried {act} {c} C = granted-by (act_overflows (table_of c) act) act C.outcome C.memory
 
 granted-acted : (over : Bool) (act : Act) {c : List ℕ} → holds c ≡ true → is_act act ≡ true → act_overflows (table_of c) act ≡ over
-    → Acted c (cond over (refused_by TableFull) (record { acts = []; grants = act ∷ []; asked = 0; refused = none })).grants
+    → Acted c (cond over (refused_by TableFull) (record { acts = []; grants = act ∷ []; asked = 0; refused = None })).grants
 granted-acted true act {c} h f e = acted-none c h
 granted-acted false act {c} h f e = acted-one c act h f e
 
@@ -68,12 +68,12 @@ pub grant-acted : (act : Act) (c : List ℕ) → holds c ≡ true → is_act act
 unfolding granted_by
 grant-acted act c h f = granted-acted (act_overflows (table_of c) act) act h f refl
 
-granted-one : (over : Bool) (act : Act) → (cond over (refused_by TableFull) (record { acts = []; grants = act ∷ []; asked = 0; refused = none })).refused ≡ none
-    → (cond over (refused_by TableFull) (record { acts = []; grants = act ∷ []; asked = 0; refused = none })).grants ≡ act ∷ []
+granted-one : (over : Bool) (act : Act) → (cond over (refused_by TableFull) (record { acts = []; grants = act ∷ []; asked = 0; refused = None })).refused ≡ None
+    → (cond over (refused_by TableFull) (record { acts = []; grants = act ∷ []; asked = 0; refused = None })).grants ≡ act ∷ []
 granted-one true act e = let z : ◌≡◌ {A = ℕ} 0 1 = cc in absurd (omega arith)
 granted-one false act e = refl
 
-pub grant-one : (act : Act) (u : Table) → (granted_by act u).refused ≡ none → (granted_by act u).grants ≡ act ∷ []
+pub grant-one : (act : Act) (u : Table) → (granted_by act u).refused ≡ None → (granted_by act u).grants ≡ act ∷ []
 unfolding granted_by
 grant-one act u e = granted-one (act_overflows u act) act e
 
@@ -91,8 +91,8 @@ module _ (act : Act) {c c' : List ℕ} {r : Outcome} (h : holds c ≡ true) (f :
 -- ---- what passes
 
 passed_none : (over passed : Bool) (act : Act)
-    → ((cond passed (cond over (refused_by TableFull) (record { acts = []; grants = act ∷ []; asked = 0; refused = none })) (refused_by Escalation)).acts ≡ [])
-    × ((cond passed (cond over (refused_by TableFull) (record { acts = []; grants = act ∷ []; asked = 0; refused = none })) (refused_by Escalation)).asked ≡ 0)
+    → ((cond passed (cond over (refused_by TableFull) (record { acts = []; grants = act ∷ []; asked = 0; refused = None })) (refused_by Escalation)).acts ≡ [])
+    × ((cond passed (cond over (refused_by TableFull) (record { acts = []; grants = act ∷ []; asked = 0; refused = None })) (refused_by Escalation)).asked ≡ 0)
 passed_none true true act = (refl, refl)
 passed_none true false act = (refl, refl)
 passed_none false true act = (refl, refl)
@@ -132,22 +132,22 @@ pass-acted state q c h f = passed-acted (passes state) q c h f
 -- its acts on the parent are those of the parent's check
 pub item-acts : (r : Result Decision) (q : Query) (u : Table) → (item_by r q u).acts ≡ decided_acts r
 unfolding item_by decided_acts checked onward
-item-acts (refused cause) q u = refl
-item-acts (ok decision) q u = rw (passed-acts decision.state q u) (append-nil (acts_of none decision.act))
+item-acts (Err cause) q u = refl
+item-acts (Ok decision) q u = rw (passed-acts decision.state q u) (append-nil (acts_of None decision.act))
 
-pub item-grants : (r : Result Decision) (q : Query) (u : Table) {decision : Decision} → r ≡ ok decision → (item_by r q u).grants ≡ (passed_on decision.state q u).grants
+pub item-grants : (r : Result Decision) (q : Query) (u : Table) {decision : Decision} → r ≡ Ok decision → (item_by r q u).grants ≡ (passed_on decision.state q u).grants
 unfolding item_by checked onward
 item-grants r q u e = rw e
 
 -- ---- acts on the child ask nobody
 
-granted-none : (over : Bool) (act : Act) → (cond over (refused_by TableFull) (record { acts = []; grants = act ∷ []; asked = 0; refused = none })).asked ≡ 0
+granted-none : (over : Bool) (act : Act) → (cond over (refused_by TableFull) (record { acts = []; grants = act ∷ []; asked = 0; refused = None })).asked ≡ 0
 granted-none true act = refl
 granted-none false act = refl
 
 then-asked : (a b : Made) (o : Option Refusal) → a.refused ≡ o → a.asked ≡ 0 → b.asked ≡ 0 → (then a b).asked ≡ 0
-then-asked a b none e f g = ap (λ (x : Made). x.asked) (then-goes a b e) ∙ rw (f, g) (omega arith)
-then-asked a b (some cause) e f g = ap (λ (x : Made). x.asked) (then-stops a b e) ∙ f
+then-asked a b None e f g = ap (λ (x : Made). x.asked) (then-goes a b e) ∙ rw (f, g) (omega arith)
+then-asked a b (Some cause) e f g = ap (λ (x : Made). x.asked) (then-stops a b e) ∙ f
 
 pub granting-asked : (acts : List Act) (u : Table) → (granting acts u).asked ≡ 0
 unfolding granting
@@ -157,13 +157,13 @@ granting-asked (act ∷ acts) u =
     (unfold granted_by in granted-none (act_overflows u act) act) (granting-asked acts (apply_act u act))
 
 -- nor do they make acts on the parent
-granted-parent : (over : Bool) (act : Act) → (cond over (refused_by TableFull) (record { acts = []; grants = act ∷ []; asked = 0; refused = none })).acts ≡ []
+granted-parent : (over : Bool) (act : Act) → (cond over (refused_by TableFull) (record { acts = []; grants = act ∷ []; asked = 0; refused = None })).acts ≡ []
 granted-parent true act = refl
 granted-parent false act = refl
 
 then-acts : (a b : Made) (o : Option Refusal) → a.refused ≡ o → a.acts ≡ [] → b.acts ≡ [] → (then a b).acts ≡ []
-then-acts a b none e f g = ap (λ (x : Made). x.acts) (then-goes a b e) ∙ rw (f, g)
-then-acts a b (some cause) e f g = ap (λ (x : Made). x.acts) (then-stops a b e) ∙ f
+then-acts a b None e f g = ap (λ (x : Made). x.acts) (then-goes a b e) ∙ rw (f, g)
+then-acts a b (Some cause) e f g = ap (λ (x : Made). x.acts) (then-stops a b e) ∙ f
 
 pub granting-acts : (acts : List Act) (u : Table) → (granting acts u).acts ≡ []
 unfolding granting

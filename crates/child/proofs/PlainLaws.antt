@@ -1,12 +1,12 @@
 -- A plain child call is lent memory alone, and a linked one is the plain one and its records: its fold is the plain one's, or stops where no number is left for an item's act.
+use Rattle.std.specs.Prelude.{Option, None, Some, Ok, Err}
 use Prim.Native.Nat.{ℕ, ◌+◌}
 use mathlib.Core.Path.{◌≡◌, refl, ap, ◌∙◌}
 use mathlib.Core.List.{List, [], ◌∷◌}
-use mathlib.Core.Option.{Option, none, some}
 use lib.ListN.{length}
 use Rattle.refusals.specs.declared.Refusal.{Refusal}
 use Rattle.refusals.specs.declared.Refusal.TheVariants.{NumbersUsedUp}
-use Rattle.refusals.specs.Refusals.{first_cause, Result, refused, ok, and_then, unless}
+use Rattle.refusals.specs.Refusals.{first_cause, Result, and_then, unless}
 use Rattle.paths.specs.Giving.{Query}
 use Rattle.table.specs.Tables.{Table}
 use Rattle.table.specs.Acts.{apply_acts}
@@ -43,15 +43,15 @@ child-alone {l} {c} {code} {list} {cwd} C =
 
 pub data MadeSame (plain : Made) : Made → Type 0 where
   same-made : MadeSame plain plain
-  used-up-made : {made : Made} → made.refused ≡ some NumbersUsedUp → MadeSame plain made
+  used-up-made : {made : Made} → made.refused ≡ Some NumbersUsedUp → MadeSame plain made
 
 then_same : (a r r' : Made) → MadeSame r r' → MadeSame (then a r) (then a r')
 then_same a r r' same-made = same-made
 then_same a r r' (used-up-made e) = by a.refused
   where
     by : (o : Option Refusal) → MadeSame (onward o a r) (onward o a r')
-    by none = unfold onward in used-up-made e
-    by (some cause) = unfold onward in same-made
+    by None = unfold onward in used-up-made e
+    by (Some cause) = unfold onward in same-made
 
 -- steps whose rest hangs on what was made
 steps-same : (a b : Made) → MadeSame a b → (f g : Made → Made) → ((x : Made) → MadeSame (f x) (g x)) → MadeSame (then a (f a)) (then b (g b))
@@ -84,14 +84,14 @@ child-same n t args cwd =
 
 -- refused alike before any item, or made alike from the same first table
 pub data ChildSame : Result Creation → Result Creation → Type 0 where
-  refused-alike : {cause : Refusal} → ChildSame (refused cause) (refused cause)
+  refused-alike : {cause : Refusal} → ChildSame (Err cause) (Err cause)
   made_alike : {first : Table} {plain linked : Made} → MadeSame plain linked
-      → ChildSame (ok (record { first = first; made = plain })) (ok (record { first = first; made = linked }))
+      → ChildSame (Ok (record { first = first; made = plain })) (Ok (record { first = first; made = linked }))
 
 child-step : {A : Type 0} (a : Result A) (f g : A → Result Creation) → ((x : A) → ChildSame (f x) (g x)) → ChildSame (and_then a f) (and_then a g)
 unfolding and_then
-child-step (refused cause) f g h = refused-alike
-child-step (ok x) f g h = h x
+child-step (Err cause) f g h = refused-alike
+child-step (Ok x) f g h = h x
 
 pub child-plain : (run : ℕ) (l : Lent) (c : List ℕ) (code : ℕ) (list : ItemList) (cwd : List ℕ) → Admits (length list.ends) (Linked run) l.words
     → ChildSame (child_call Plain (alone l.memory) c code list cwd) (child_call (Linked run) l c code list cwd)

@@ -1,8 +1,7 @@
 -- The child call: its checking order, its answer, and both memories after it. Scope, "A call comes in".
-use Rattle.std.specs.Prelude.{ℕ, ◌≡◌, List, [], length}
-use Rattle.std.proofs.Math.Option.{Option, none, some}
+use Rattle.std.specs.Prelude.{ℕ, ◌≡◌, List, [], length, Option, None, Some, Ok, Err}
 use Rattle.refusals.specs.declared.Refusal.{Refusal}
-use Rattle.refusals.specs.Refusals.{Result, refused, ok, and_then}
+use Rattle.refusals.specs.Refusals.{Result, and_then}
 use Rattle.table.specs.Tables.{Table, fresh}
 use Rattle.table.specs.Acts.{Act}
 use Rattle.table.specs.Memory.{put, do_acts}
@@ -33,32 +32,32 @@ child_call link l c code list cwd =
     and_then (room_in (length list.ends) link l.words) (λ room.
     and_then (run_in link l.number) (λ numbers.
     and_then (arguments_of code list.bytes list.ends list.responses) (λ args.
-    ok (creation numbers t cwd args))))))
+    Ok (creation numbers t cwd args))))))
 
 -- ---- what a call leaves
 
 -- refused before any item, or on the way, or not at all
 unfoldable pub refusal_in : Result Creation → Option Refusal
-refusal_in (refused cause) = some cause
-refusal_in (ok s) = s.made.refused
+refusal_in (Err cause) = Some cause
+refusal_in (Ok s) = s.made.refused
 
 unfoldable pub times_asked : Result Creation → ℕ
-times_asked (refused cause) = 0
-times_asked (ok s) = s.made.asked
+times_asked (Err cause) = 0
+times_asked (Ok s) = s.made.asked
 
 -- the parent keeps its acts, also where the call is refused on the way
 unfoldable pub child_acts : Result Creation → List Act
-child_acts (refused cause) = []
-child_acts (ok s) = s.made.acts
+child_acts (Err cause) = []
+child_acts (Ok s) = s.made.acts
 
 -- after a refusal on the way the child is fresh; the bytes that follow its head are what the half-made table left
 unfoldable pub child_left : Option Refusal → List ℕ → List ℕ
-child_left none c = c
-child_left (some cause) c = put fresh c
+child_left None c = c
+child_left (Some cause) c = put fresh c
 
 unfoldable pub child_after : Result Creation → List ℕ → List ℕ
-child_after (refused cause) c = c
-child_after (ok s) c = child_left s.made.refused (do_acts (put s.first c) s.made.grants)
+child_after (Err cause) c = c
+child_after (Ok s) c = child_left s.made.refused (do_acts (put s.first c) s.made.grants)
 
 -- what a call that comes to this answers, and the child's memory c after it
 pub record Creates (call : Result Creation) (c c' : List ℕ) (r : ChildMade) : Type 0 where

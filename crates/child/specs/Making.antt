@@ -1,10 +1,9 @@
 -- The Rust's `create_child_permissions`, step by step, in the scope's order of refusals: a fold of what each item adds. A plain call numbers no
 -- act, and a linked one is the same fold. Scope, "A call comes in".
-use Rattle.std.specs.Prelude.{ℕ, ◌+◌, List, [], ◌∷◌, ◌++◌, Bool, true, false, cond}
-use Rattle.std.proofs.Math.Option.{Option, none, some}
+use Rattle.std.specs.Prelude.{ℕ, ◌+◌, List, [], ◌∷◌, ◌++◌, Bool, true, false, cond, Option, None, Some, Ok, Err}
 use Rattle.refusals.specs.declared.Refusal.{Refusal}
 use Rattle.refusals.specs.declared.Refusal.TheVariants.{TableFull, Escalation}
-use Rattle.refusals.specs.Refusals.{Result, refused, ok}
+use Rattle.refusals.specs.Refusals.{Result}
 use Rattle.paths.specs.Resolving.{resolve}
 use Rattle.paths.specs.Giving.{Query, query_of}
 use Rattle.table.specs.Entries.{Entry, is_granted}
@@ -28,25 +27,25 @@ pub record Made : Type 0 where
   pub acts : List Act
   pub grants : List Act
   pub asked : ℕ
-  pub refused : Option Refusal
+  pub Err : Option Refusal
 
 abbrev pub nothing : Made
-nothing = record { acts = []; grants = []; asked = 0; refused = none }
+nothing = record { acts = []; grants = []; asked = 0; refused = None }
 
 abbrev pub refused_by : Refusal → Made
-refused_by cause = record { acts = []; grants = []; asked = 0; refused = some cause }
+refused_by cause = record { acts = []; grants = []; asked = 0; refused = Some cause }
 
 -- one after the other; a call that is refused goes no further
 unfoldable pub onward : Option Refusal → Made → Made → Made
-onward (some cause) a b = a
-onward none a b = record { acts = a.acts ++ b.acts; grants = a.grants ++ b.grants; asked = a.asked + b.asked; refused = b.refused }
+onward (Some cause) a b = a
+onward None a b = record { acts = a.acts ++ b.acts; grants = a.grants ++ b.grants; asked = a.asked + b.asked; refused = b.refused }
 
 abbrev pub then : Made → Made → Made
 then a b = onward a.refused a b
 
 -- one act on the child's table u; 8 where it has no room
 unfoldable pub granted_by : Act → Table → Made
-granted_by act u = cond (act_overflows u act) (refused_by TableFull) (record { acts = []; grants = act ∷ []; asked = 0; refused = none })
+granted_by act u = cond (act_overflows u act) (refused_by TableFull) (record { acts = []; grants = act ∷ []; asked = 0; refused = None })
 
 -- acts on it in turn
 unfoldable pub granting : List Act → Table → Made
@@ -65,12 +64,12 @@ passed_on state q u = cond (passes state) (granted_by (grant_act u q) u) (refuse
 
 -- the parent's check has come to an end
 unfoldable pub checked : Decision → Made
-checked decision = record { acts = acts_of none decision.act; grants = []; asked = count_of decision.asked; refused = none }
+checked decision = record { acts = acts_of None decision.act; grants = []; asked = count_of decision.asked; refused = None }
 
 -- what the parent's check of q comes to, and what the child is granted; an item whose check is refused adds nothing
 unfoldable pub item_by : Result Decision → Query → Table → Made
-item_by (refused cause) q u = refused_by cause
-item_by (ok decision) q u = then (checked decision) (passed_on decision.state q u)
+item_by (Err cause) q u = refused_by cause
+item_by (Ok decision) q u = then (checked decision) (passed_on decision.state q u)
 
 -- 4 to 7, the parent's check with 8 and 9, then 10, then the child's insert with 8; t is the parent's table, u the child's
 unfoldable pub item_step : Numbering → List ℕ → Item → Table → Table → Made

@@ -1,7 +1,6 @@
 -- What the functions inside the crate ensure, step by step; `Calls.antt` has what they come to.
-use Rattle.std.specs.Prelude.{ℕ, ◌+◌, ◌≤◌, ◌≡◌, List, Bool, true, false}
+use Rattle.std.specs.Prelude.{ℕ, ◌+◌, ◌≤◌, ◌≡◌, List, Bool, true, false, Ok}
 use Rattle.refusals.specs.declared.Refusal.{Refusal}
-use Rattle.refusals.specs.Refusals.{ok}
 use Rattle.table.specs.declared.Outcome.{Outcome}
 use Rattle.table.specs.declared.Outcome.TheVariants.{Done, Refused}
 use Rattle.table.specs.Entries.{Entry}
@@ -56,7 +55,7 @@ pub record SendsItem (cwd : List ℕ) (item : Item) (link : Link) (l : Lent) (c 
 
 -- the items that come of the answers, where all of them are known
 abbrev pub SendsItems : List ℕ → (List PromptResponse → List Item) → List ℕ → Link → Lent → List ℕ → Lent → List ℕ → ChildSent → Type 0
-SendsItems cwd items responses link l c l' c' r = (known : List PromptResponse) → known_responses responses ≡ ok known
+SendsItems cwd items responses link l c l' c' r = (known : List PromptResponse) → known_responses responses ≡ Ok known
     → MakesSent (all_items (numbering link l.number) cwd (items known) (table_of l.memory) (table_of c)) link l c 0 l' c' r
 
 -- the same for steps that change the child's memory alone

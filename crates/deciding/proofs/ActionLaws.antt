@@ -1,8 +1,8 @@
 -- The act that a call decides on has the resolved path, so that its action with that path beside it is the act.
+use Rattle.std.specs.Prelude.{Option, None, Some}
 use Prim.Native.Nat.{ℕ}
 use mathlib.Core.Path.{◌≡◌, refl}
 use mathlib.Core.List.{List}
-use mathlib.Core.Option.{Option, none, some}
 use mathlib.Core.Bool.{Bool, true, false, cond}
 use Rattle.paths.specs.declared.Descriptor.{Descriptor}
 use Rattle.paths.specs.declared.Descriptor.TheVariants.{NoPath, Path}
@@ -40,17 +40,17 @@ abbrev OfPath : List ℕ → Option Act → Type 0
 OfPath q act = act_of (action_of act) q ≡ act
 
 module _ (t : Table) (q : List ℕ) where
-  grant-of : (d : Descriptor) → OfPath q (some (grant_act t (query_of d q)))
+  grant-of : (d : Descriptor) → OfPath q (Some (grant_act t (query_of d q)))
   unfolding grant_act query_of switch_on act_of action_of
   grant-of NoPath = refl
   grant-of Path = refl
 
-  deny-of : (d : Descriptor) → OfPath q (some (deny_act t (query_of d q)))
+  deny-of : (d : Descriptor) → OfPath q (Some (deny_act t (query_of d q)))
   unfolding deny_act query_of switch_on act_of action_of
   deny-of NoPath = refl
   deny-of Path = refl
 
-  answer-of : (d : Descriptor) (response : PromptResponse) → OfPath q (some (answer_act t (query_of d q) response))
+  answer-of : (d : Descriptor) (response : PromptResponse) → OfPath q (Some (answer_act t (query_of d q) response))
   unfolding answer_act switch_on act_of action_of
   answer-of d Deny = deny-of d
   answer-of d Allow = grant-of d
@@ -60,7 +60,7 @@ module _ (t : Table) (q : List ℕ) where
   cond_of true x y f g = f
   cond_of false x y f g = g
 
-  none_of : OfPath q none
+  none_of : OfPath q None
   unfolding act_of action_of
   none_of = refl
 
@@ -92,7 +92,7 @@ module _ (t : Table) (q : List ℕ) where
   decided-of Check d response = cond_of (is_allow_all t) _ _ none_of (check-of d response (query_desc t (check_mode (query_of d q)) (query_of d q)))
   decided-of Request d response = request-of d response (query_desc t TreatAsPartialGranted (query_of d q))
 
-pub revoke-of : (q : List ℕ) (d : Descriptor) → OfPath q (some (revoke_act (query_of d q)))
+pub revoke-of : (q : List ℕ) (d : Descriptor) → OfPath q (Some (revoke_act (query_of d q)))
 unfolding revoke_act query_of act_of action_of
 revoke-of q NoPath = refl
 revoke-of q Path = refl

@@ -1,9 +1,8 @@
 -- What check, request and revoke decide, from the table, what is asked about and the operator's answer. Scope, "A call comes in".
 -- A decision changes nothing: the act in it, if there is one, is still to be carried out.
-use Rattle.std.specs.Prelude.{ℕ, zero, suc, Bool, true, false, cond}
-use Rattle.std.proofs.Math.Option.{Option, none, some}
+use Rattle.std.specs.Prelude.{ℕ, zero, suc, Bool, true, false, cond, Option, None, Some, Ok, Err}
 use Rattle.refusals.specs.declared.Refusal.TheVariants as refusal
-use Rattle.refusals.specs.Refusals.{Result, refused, ok}
+use Rattle.refusals.specs.Refusals.{Result}
 use Rattle.paths.specs.Giving.{Query, no_path, path}
 use Rattle.table.specs.declared.Kind.TheVariants.{G, P}
 use Rattle.table.specs.Tables.{Table, has, set_bit, granted, prompt_denied, prompt}
@@ -43,8 +42,8 @@ response_of (suc (suc (suc n))) = Unknown
 
 -- 3 where it names none
 unfoldable pub known_response : ResponseRead → Result PromptResponse
-known_response (Response response) = ok response
-known_response Unknown = refused refusal.Unknown
+known_response (Response response) = Ok response
+known_response Unknown = Err refusal.Unknown
 
 -- ---- acts
 
@@ -89,7 +88,7 @@ passes Ignored = false
 
 -- nobody is asked, and nothing is done
 unfoldable pub unasked : PermissionState → Bool → Decision
-unasked state writes = record { state = state; asked = false; writes = writes; act = none }
+unasked state writes = record { state = state; asked = false; writes = writes; act = None }
 
 -- either yes passes; Deny fails with Denied
 unfoldable pub state_by : PromptResponse → PermissionState
@@ -99,7 +98,7 @@ state_by Deny = Denied
 
 -- the operator is asked, and a text is written
 unfoldable pub asks : Table → Query → PromptResponse → Decision
-asks t q response = record { state = state_by response; asked = true; writes = true; act = some (answer_act t q response) }
+asks t q response = record { state = state_by response; asked = true; writes = true; act = Some (answer_act t q response) }
 
 -- ---- check
 
@@ -125,7 +124,7 @@ check_desc t q response = cond (is_allow_all t) (unasked Granted false) (check_b
 
 -- Granted inserts G; Prompt without switch 16 returns Denied, and with it asks; any other state is returned as it is
 unfoldable pub request_by : Table → Query → PromptResponse → PermissionState → Decision
-request_by t q response Granted = record { state = Granted; asked = false; writes = false; act = some (grant_act t q) }
+request_by t q response Granted = record { state = Granted; asked = false; writes = false; act = Some (grant_act t q) }
 request_by t q response GrantedPartial = unasked GrantedPartial false
 request_by t q response Prompt = cond (has t.switches prompt) (asks t q response) (unasked Denied false)
 request_by t q response Denied = unasked Denied false
@@ -155,5 +154,5 @@ revoke_desc t q = record {
   state = query_desc (apply_act t (revoke_act q)) TreatAsPartialGranted q;
   asked = false;
   writes = false;
-  act = some (revoke_act q);
+  act = Some (revoke_act q);
 }

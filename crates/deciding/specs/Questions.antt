@@ -1,7 +1,7 @@
 -- What check and request would ask, before the operator's answer is known: checking order, answer, and the text space after it. Scope, "A call comes in".
-use Rattle.std.specs.Prelude.{ℕ, ◌≡◌, List, [], ◌∷◌, Bool, true, false, cond, length, ltb}
+use Rattle.std.specs.Prelude.{ℕ, ◌≡◌, List, [], ◌∷◌, Bool, true, false, cond, length, ltb, Ok, Err}
 use Rattle.refusals.specs.declared.Refusal.TheVariants.{NoSpace}
-use Rattle.refusals.specs.Refusals.{when, first_cause, Result, refused, ok, and_then, unless}
+use Rattle.refusals.specs.Refusals.{when, first_cause, Result, and_then, unless}
 use Rattle.paths.specs.declared.Descriptor.{Descriptor}
 use Rattle.paths.specs.Resolving.{resolve}
 use Rattle.paths.specs.Copying.{begun}
@@ -37,7 +37,7 @@ question_call call m s d p cwd =
     and_then (table_in m) (λ t.
     and_then (text_space s) (λ room.
     and_then (given d p cwd) (λ q.
-    ok (would_ask call t q))))
+    Ok (would_ask call t q))))
 
 -- the question, if one would be asked, and its length, as an answer of the code
 unfoldable pub question_by : Bool → List ℕ → Question
@@ -45,12 +45,12 @@ question_by true text = question.Asks (length text)
 question_by false text = question.AsksNothing
 
 unfoldable pub question_in : Result Bool → List ℕ → Question
-question_in (refused cause) text = question.Refused cause
-question_in (ok asks) text = question_by asks text
+question_in (Err cause) text = question.Refused cause
+question_in (Ok asks) text = question_by asks text
 
 unfoldable pub question_text : Result Bool → List ℕ → List ℕ
-question_text (refused cause) text = []
-question_text (ok asks) text = cond asks text []
+question_text (Err cause) text = []
+question_text (Ok asks) text = cond asks text []
 
 -- the text space s becomes s': the question stands at its start, or nothing changes
 pub record Questions (call : Call) (m s : List ℕ) (d : Descriptor) (p cwd s' : List ℕ) (r : Question) : Type 0 where

@@ -1,7 +1,6 @@
 // What check, request and revoke decide, from a table in lent memory and the operator's answer. Scope, "A call comes in".
 // Nothing changes here: the act that is decided on is still to be carried out.
-ghost use Rattle.std.specs.Prelude.{◌≡◌, true, List, ℕ, ◌<◌, ◌≤◌};
-ghost use Rattle.std.proofs.Math.Option.{some};
+ghost use Rattle.std.specs.Prelude.{◌≡◌, true, List, ℕ, ◌<◌, ◌≤◌, Some};
 ghost use Rattle.paths.specs.Giving.{query_of};
 ghost use Rattle.table.specs.Memory.{table_of, holds};
 ghost use Rattle.table.specs.Carrying.{act_of};
@@ -36,7 +35,7 @@ use walk::{AllowPartial, PermissionState};
 // Sets a switch in the table.
 fn switch_action(mem: &[u8], bit: u8) -> Action
     requires { (holds mem.now ≡ true) × (0 < bit) × (bit ≤ 16) }
-    ensures { (q : List ℕ) → act_of result q ≡ some (switch_on (table_of mem.now) bit) }
+    ensures { (q : List ℕ) → act_of result q ≡ Some (switch_on (table_of mem.now) bit) }
 {
     Action::SetSwitches(set_bit(switches(mem), bit))
 }
@@ -44,7 +43,7 @@ fn switch_action(mem: &[u8], bit: u8) -> Action
 // A yes.
 pub fn grant_action(mem: &[u8], d: Descriptor) -> Action
     requires { holds mem.now ≡ true }
-    ensures { (q : List ℕ) → act_of result q ≡ some (grant_act (table_of mem.now) (query_of d q)) }
+    ensures { (q : List ℕ) → act_of result q ≡ Some (grant_act (table_of mem.now) (query_of d q)) }
 {
     match d {
         Descriptor::NoPath => switch_action(mem, GRANTED),
@@ -55,7 +54,7 @@ pub fn grant_action(mem: &[u8], d: Descriptor) -> Action
 // A no.
 fn deny_action(mem: &[u8], d: Descriptor) -> Action
     requires { holds mem.now ≡ true }
-    ensures { (q : List ℕ) → act_of result q ≡ some (deny_act (table_of mem.now) (query_of d q)) }
+    ensures { (q : List ℕ) → act_of result q ≡ Some (deny_act (table_of mem.now) (query_of d q)) }
 {
     match d {
         Descriptor::NoPath => switch_action(mem, PROMPT_DENIED),
@@ -66,7 +65,7 @@ fn deny_action(mem: &[u8], d: Descriptor) -> Action
 // The act that an answer makes; AllowAll is a yes with no path.
 fn answer_action(mem: &[u8], d: Descriptor, response: PromptResponse) -> Action
     requires { holds mem.now ≡ true }
-    ensures { (q : List ℕ) → act_of result q ≡ some (answer_act (table_of mem.now) (query_of d q) response) }
+    ensures { (q : List ℕ) → act_of result q ≡ Some (answer_act (table_of mem.now) (query_of d q) response) }
 {
     match response {
         PromptResponse::Deny => deny_action(mem, d),
@@ -215,7 +214,7 @@ pub fn decide(mem: &[u8], call: Call, d: Descriptor, q: &[u8], response: PromptR
 
 // The act of a revoke: of a path, or of all.
 pub fn revoke_action(d: Descriptor) -> Action
-    ensures { (q : List ℕ) → act_of result q ≡ some (revoke_act (query_of d q)) }
+    ensures { (q : List ℕ) → act_of result q ≡ Some (revoke_act (query_of d q)) }
 {
     match d {
         Descriptor::NoPath => Action::RevokeAll,

@@ -1,4 +1,5 @@
 -- What holds of the main after any list of its calls, run after run.
+use Rattle.std.specs.Prelude.{Ok, Err}
 use Prim.Native.Nat.{ℕ, ◌+◌, ◌≤◌}
 use mathlib.Core.Path.{◌≡◌, refl, sym, ap, ◌∙◌, subst}
 use mathlib.Core.List.Memᴰ
@@ -19,7 +20,7 @@ use lib.Dec.{eqb}
 use borrow.Author.Tests.{ltb-false, eq-eqb, ne_eqb, eqb-true, eqb-false}
 use Rattle.refusals.specs.declared.Refusal.{Refusal}
 use Rattle.refusals.specs.declared.Refusal.TheVariants.{NoTable}
-use Rattle.refusals.specs.Refusals.{Result, refused, ok, cause_of}
+use Rattle.refusals.specs.Refusals.{Result, cause_of}
 use Rattle.refusals.proofs.CauseLaws.{no-cause-head, Hands, stops, hands, hands_then, hands-unless}
 use Rattle.paths.specs.Components.{Bytes}
 use Rattle.paths.specs.Copying.{begun}
@@ -190,8 +191,8 @@ unfolding outcome_of cause_of put_in number_in
 refused-begin {m} {q} {n} {m'} {n'} {cause} W = by (begin_call m q) W.outcome W.memory W.number
   where
     by : (call : Result Table) → outcome.Refused cause ≡ outcome_of (cause_of call) → m' ≡ put_in call m → n' ≡ number_in call n → (m' ≡ m) × (n' ≡ n)
-    by (refused c) e f g = (f, g)
-    by (ok t) e f g = let z : ◌≡◌ {A = ℕ} 0 1 = cc in absurd (omega arith)
+    by (Err c) e f g = (f, g)
+    by (Ok t) e f g = let z : ◌≡◌ {A = ℕ} 0 1 = cc in absurd (omega arith)
 
 -- ---- the acts of each run
 
@@ -358,10 +359,10 @@ module _ {a : Main} {r : Run} {runs : List Run} {sent : List Message} {wrote : L
     present = M.present;
     each = λ q. record {
       recorded = (M.each q).recorded;
-      records = rw (changes-append q sent (image i ∷ []), changes-image q (ok i), append-nil) (M.each q).records;
+      records = rw (changes-append q sent (image i ∷ []), changes-image q (Ok i), append-nil) (M.each q).records;
     };
     images = λ j m. ⊎_elim (M.images j) (λ x. last j (Memᴰ.eq_of_singleton x)) (Memᴰ.append_cases sent m);
-    written = rw (M.written, words_append sent (image i ∷ []), words-image (ok i));
+    written = rw (M.written, words_append sent (image i ∷ []), words-image (Ok i));
   }
     where
       last : (j : Image) → image j ≡ image i → Imaged (r ∷ runs) j

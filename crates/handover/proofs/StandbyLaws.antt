@@ -1,4 +1,5 @@
 -- What holds of the standby after any list of arrivals of what the main sent.
+use Rattle.std.specs.Prelude.{Ok}
 use Prim.Native.Nat.{ℕ, ◌+◌, ◌≤◌}
 use mathlib.Core.Path.{◌≡◌, refl, sym, ap, subst, ◌∙◌}
 use mathlib.Core.List.Memᴰ
@@ -11,7 +12,7 @@ use lib.ListN.{length, take}
 use lib.Seq.{take-suc}
 use borrow.Author.Tests.{eq-eqb, ne_eqb}
 use Rattle.refusals.specs.declared.Refusal.{Refusal}
-use Rattle.refusals.specs.Refusals.{first_cause, Result, ok}
+use Rattle.refusals.specs.Refusals.{first_cause, Result}
 use Rattle.table.specs.Tables.{fresh}
 use Rattle.table.specs.Acts.{revoke_all, act_overflows, apply_act, apply_acts}
 use Rattle.table.specs.Memory.{table_of, holds, put, do_act}
@@ -259,7 +260,7 @@ module _ {runs : List Run} {m : List ℕ} {s : Numbers} {j : Judged} {came : Lis
 
   -- an image
   module _ {i : Image} (I : Imaged runs i) where
-    loaded-by : {l : Left} {m' : List ℕ} {s' : Numbers} {r : Arrival} → Loading m (met s i.run i.number) i l → Comes (ok l) m s m' s' r
+    loaded-by : {l : Left} {m' : List ℕ} {s' : Numbers} {r : Arrival} → Loading m (met s i.run i.number) i l → Comes (Ok l) m s m' s' r
         → StandbyIs runs m' s' (judged_by j (image i)) (came ++ image i ∷ []) (answers ++ r ∷ [])
     unfolding left_by run_of number_of takes
     loaded-by (taken l less) D =

@@ -1,10 +1,10 @@
 -- What the runs of `Witness.antt` and `Wrong.antt` are made of: each call has a next main, and what goes on from a main or a standby whose table is known. The
 -- proof of demand 3 does not use it.
+use Rattle.std.specs.Prelude.{Some, Ok, Err}
 use Prim.Native.Nat.{ℕ, zero, suc, ◌+◌, ◌*◌, ◌≤◌, ◌<◌}
 use mathlib.Core.Path.{◌≡◌, refl, sym, ap, ◌∙◌}
 use mathlib.Core.List.Memᴰ
 use mathlib.Core.List.{List, [], ◌∷◌, ◌++◌, Memᴰ}
-use mathlib.Core.Option.{some}
 use mathlib.Core.Bool.{Bool, true}
 use native.Mathlib.Omega.{arith}
 use lib.ListN.{length, take}
@@ -12,7 +12,7 @@ use lib.Seq.{take-append_seam}
 use borrow.Author.Tests.{le-ltb}
 use Rattle.refusals.specs.declared.Refusal.{Refusal}
 use Rattle.refusals.specs.declared.Refusal.TheVariants.{NoTable}
-use Rattle.refusals.specs.Refusals.{when, first_cause, Result, refused, ok, and_then, unless, cause_of}
+use Rattle.refusals.specs.Refusals.{when, first_cause, Result, and_then, unless, cause_of}
 use Rattle.paths.specs.declared.Descriptor.{Descriptor}
 use Rattle.paths.specs.Components.{Bytes}
 use Rattle.paths.specs.Copying.{begun}
@@ -241,7 +241,7 @@ module _ {runs : List Run} {sent : List Message} {lines : List Line} (C : Course
       }
 
   -- a beginning that is refused
-  pub course-refuses : (q : ℕ) (cause : Refusal) → begin_call C.main.memory q ≡ refused cause
+  pub course-refuses : (q : ℕ) (cause : Refusal) → begin_call C.main.memory q ≡ Err cause
       → Course runs sent (lines ++ beginning q (outcome.Refused cause) ∷ [])
   unfolding script
   course-refuses q cause e =
@@ -360,7 +360,7 @@ abbrev pub next : Taking → Table → List ℕ → Numbers → Change → Resul
 next taking t m s c = and_then (standing t s) (λ t. taking t m s c)
 
 abbrev pub next_image : Bringing → Table → List ℕ → Numbers → Image → Result Left
-next_image bringing t m s i = and_then (standing t s) (λ t. ok (bringing m s i))
+next_image bringing t m s i = and_then (standing t s) (λ t. Ok (bringing m s i))
 
 -- in whatever memory, the numbers s become s', with this effect and this answer
 abbrev pub Leaves : (List ℕ → Result Left) → Numbers → Effect → Arrival → Numbers → Type 0
@@ -373,10 +373,10 @@ leaves-comes call {s} x L m e =
     record { answer = ap (λ (l : Left). l.answer) is; memory = ap (λ (l : Left). l.memory) is; numbers = ap (λ (l : Left). l.numbers) is }
 
 -- what was sent reads back
-change-legible : {runs : List Run} {c : Change} → Genuine runs (changed c) → read_change (change_words c) ≡ some c
+change-legible : {runs : List Run} {c : Change} → Genuine runs (changed c) → read_change (change_words c) ≡ Some c
 change-legible {c = c} (change-is k C) = read_back c C.readable
 
-image-legible : {runs : List Run} {i : Image} → Genuine runs (image i) → read_image (image_words i) ≡ some i
+image-legible : {runs : List Run} {i : Image} → Genuine runs (image i) → read_image (image_words i) ≡ Some i
 image-legible (image-is I) = image-read I.writable
 
 module _ {runs : List Run} {sent : List Message} {lines : List Line} (C : Course runs sent lines)
@@ -408,7 +408,7 @@ module _ {runs : List Run} {sent : List Message} {lines : List Line} (C : Course
 -- ---- what is lent
 
 -- record space for k items
-pub room-linked : (k run : ℕ) (w : List ℕ) → record_space * at_least_one k ≤ length w → room_in k (Linked run) w ≡ ok w
+pub room-linked : (k run : ℕ) (w : List ℕ) → record_space * at_least_one k ≤ length w → room_in k (Linked run) w ≡ Ok w
 unfolding lacks_room
 room-linked k run w h = room-long k (Linked run) w (le-ltb (length w) (record_space * at_least_one k) h)
 

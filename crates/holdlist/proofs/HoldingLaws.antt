@@ -1,8 +1,8 @@
 -- Laws of holding: a record that arrives, the record that bytes begin with, and the loop over records.
+use Rattle.std.specs.Prelude.{Option, None, Some, Ok, Err}
 use Prim.Native.Nat.{ℕ, zero, suc, ◌+◌, ◌*◌, ◌-◌, ◌/◌, ◌≤◌, ◌<◌}
 use mathlib.Core.Path.{◌≡◌, refl, sym, ap, subst, ◌∙◌}
 use mathlib.Core.List.{List}
-use mathlib.Core.Option.{Option, none, some}
 use mathlib.Core.Bool.{Bool, true, false, ◌||◌, cond, or-true, false≢true}
 use native.Mathlib.Omega.{arith}
 use lib.ListN.{length, take, length-append, length-drop}
@@ -18,7 +18,7 @@ use Rattle.records.specs.Answers.{record_answer, ReadsRecord}
 use Rattle.records.proofs.WrittenLaws.{written-first}
 use Rattle.records.proofs.FirstLaws.{same_first}
 use Rattle.refusals.specs.declared.Refusal.{Refusal}
-use Rattle.refusals.specs.Refusals.{Result, refused, ok, and_then}
+use Rattle.refusals.specs.Refusals.{Result, and_then}
 use Rattle.table.specs.Tables.{Table}
 use Rattle.table.specs.Acts.{Act}
 use Rattle.table.specs.Memory.{table_of}
@@ -37,13 +37,13 @@ use Rattle.holdlist.specs.Holding.{record_space, Standing, stop, after_arrival, 
 
 -- the answer says whether an arrival is refused
 data Tells : Result Left → Type 0 where
-  stops : {cause : Refusal} → Tells (refused cause)
-  leaves : {left : Left} → is_refused left.answer ≡ false → Tells (ok left)
+  stops : {cause : Refusal} → Tells (Err cause)
+  leaves : {left : Left} → is_refused left.answer ≡ false → Tells (Ok left)
 
-tells-applied : (m : List ℕ) (s : Numbers) (r : Result Act) → Tells (and_then r (λ act. ok (applies m s act)))
+tells-applied : (m : List ℕ) (s : Numbers) (r : Result Act) → Tells (and_then r (λ act. Ok (applies m s act)))
 unfolding and_then
-tells-applied m s (refused cause) = stops
-tells-applied m s (ok act) = leaves refl
+tells-applied m s (Err cause) = stops
+tells-applied m s (Ok act) = leaves refl
 
 tells-taken : {t : Table} {m : List ℕ} {s : Numbers} {c : Change} {call : Result Left} → Taking t m s c call → Tells call
 tells-taken (lower l) = leaves refl
@@ -74,12 +74,12 @@ unfolding after_record
 first-decides ws ws' s same = go (read_first ws) refl (read_first ws') refl
   where
     go : (o : Option (Read Change)) → read_first ws ≡ o → (o' : Option (Read Change)) → read_first ws' ≡ o' → after_record o s ≡ after_record o' s
-    go none e none e' = refl
-    go none e (some r) e' =
+    go None e None e' = refl
+    go None e (Some r) e' =
         let f = same_first ws' ws (sym same) r e' in
         let z : ◌≡◌ {A = ℕ} 0 1 = cc in
         absurd (omega arith)
-    go (some r) e o e' = rw (sym e' ∙ same_first ws ws' same r e)
+    go (Some r) e o e' = rw (sym e' ∙ same_first ws ws' same r e)
 
 -- what taking the first `end` of the words comes to
 pub record NextRecord (s : Standing) (bytes words : List ℕ) (count end : ℕ) : Type 0 where
@@ -104,8 +104,8 @@ module _ (s : Standing) (bytes : List ℕ) {space words : List ℕ} {count : ℕ
     next-malformed e = go (read_first (take count words)) refl (sym R.answer ∙ e)
       where
         go : (o : Option (Read Change)) → read_first (take count words) ≡ o → record_answer 0 o ≡ answer.Malformed → after_next s bytes ≡ stop s
-        go none f g = next-by ∙ rw f
-        go (some d) f g = let z : ◌≡◌ {A = ℕ} 0 1 = cc in absurd (omega arith)
+        go None f g = next-by ∙ rw f
+        go (Some d) f g = let z : ◌≡◌ {A = ℕ} 0 1 = cc in absurd (omega arith)
 
     pub next-record : {run number size end : ℕ} {action : Action} → r ≡ answer.Change run number action size end → NextRecord s bytes words count end
     unfolding record_answer after_record
@@ -113,8 +113,8 @@ module _ (s : Standing) (bytes : List ℕ) {space words : List ℕ} {count : ℕ
       where
         go : (o : Option (Read Change)) → read_first (take count words) ≡ o → answer.Change run number action size end ≡ record_answer 0 o
             → NextRecord s bytes words count end
-        go none f g = let z : ◌≡◌ {A = ℕ} 0 1 = cc in absurd (omega arith)
-        go (some d) f g =
+        go None f g = let z : ◌≡◌ {A = ℕ} 0 1 = cc in absurd (omega arith)
+        go (Some d) f g =
             let c = change_words d.value in
             let there = (written-first (take count words) d f).words in
             let i : end ≡ 0 + length c = cc in
@@ -144,13 +144,13 @@ advances-stopped s left = record { more = λ e. absurd (false≢true (sym e)); m
 
 advances-arrival : (call : Result Left) (k : ℕ) (s : Standing) (left : ℕ) → 1 ≤ k → k ≤ left → Advances s (after_arrival call k s) left
 unfolding after_arrival
-advances-arrival (refused cause) k s left some_word few = advances-stopped s left
-advances-arrival (ok r) k s left some_word few = record { more = λ e. omega arith; most = omega arith }
+advances-arrival (Err cause) k s left some_word few = advances-stopped s left
+advances-arrival (Ok r) k s left some_word few = record { more = λ e. omega arith; most = omega arith }
 
 advances-record : (ws : List ℕ) (s : Standing) (o : Option (Read Change)) → read_first ws ≡ o → Advances s (after_record o s) (length ws)
 unfolding after_record change_words
-advances-record ws s none e = advances-stopped s (length ws)
-advances-record ws s (some r) e =
+advances-record ws s None e = advances-stopped s (length ws)
+advances-record ws s (Some r) e =
     advances-arrival _ _ s (length ws) (omega arith)
     (omega (arith, ap length (written-first ws r e).words ∙ length-append (change_words r.value) r.rest))
 

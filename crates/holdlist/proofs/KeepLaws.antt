@@ -1,12 +1,12 @@
 -- Whatever the input, memory that held a table holds one afterwards, and numbers that agreed agree.
+use Rattle.std.specs.Prelude.{Option, None, Some, Ok, Err}
 use Prim.Native.Nat.{ℕ, zero, suc, ◌≤◌}
 use mathlib.Core.Path.{◌≡◌, refl, ap, ◌∙◌}
 use mathlib.Core.List.{List}
-use mathlib.Core.Option.{Option, none, some}
 use mathlib.Core.Bool.{Bool, true, false}
 use native.Mathlib.Omega.{arith}
 use lib.ListN.{length}
-use Rattle.refusals.specs.Refusals.{Result, refused, ok}
+use Rattle.refusals.specs.Refusals.{Result}
 use Rattle.table.specs.declared.Outcome.{Outcome}
 use Rattle.table.specs.Tables.{fresh}
 use Rattle.table.specs.Memory.{table_bytes, holds}
@@ -36,13 +36,13 @@ stopped s S = record { holding = S.holding; agreeing = S.agreeing }
 
 after-arrival : (call : Result Left) (k : ℕ) (s : Standing) → Sound s → Kept s.numbers (left_by call s.memory s.numbers) → Sound (after_arrival call k s)
 unfolding after_arrival left_by
-after-arrival (refused cause) k s S K = stopped s S
-after-arrival (ok r) k s S K = record { holding = K.holding; agreeing = K.agreeing S.agreeing }
+after-arrival (Err cause) k s S K = stopped s S
+after-arrival (Ok r) k s S K = record { holding = K.holding; agreeing = K.agreeing S.agreeing }
 
 after-record : (o : Option (Read Change)) (s : Standing) → Sound s → Sound (after_record o s)
 unfolding after_record
-after-record none s S = stopped s S
-after-record (some r) s S = after-arrival _ _ s S (arrival-kept s.memory s.numbers S.holding (change_words r.value))
+after-record None s S = stopped s S
+after-record (Some r) s S = after-arrival _ _ s S (arrival-kept s.memory s.numbers S.holding (change_words r.value))
 
 after_next_lem : (s : Standing) (input : List ℕ) → Sound s → Sound (after_next s input)
 unfolding after_next

@@ -1,14 +1,14 @@
 -- Input in parts is input at once: what a first part leaves, where a record may go on in the next, is put before the next.
+use Rattle.std.specs.Prelude.{Option, None, Some, Ok, Err}
 use Prim.Native.Nat.{ℕ, zero, suc, ◌+◌, ◌*◌, ◌-◌, ◌≤◌}
 use mathlib.Core.Path.{◌≡◌, refl, sym, ap, ◌∙◌}
 use mathlib.Core.List.{List, ◌++◌}
-use mathlib.Core.Option.{Option, none, some}
 use mathlib.Core.Bool.{Bool, true, false, cond}
 use native.Mathlib.Nat.{add-zero, add_assoc}
 use native.Mathlib.Omega.{arith}
 use lib.ListN.{length, drop, length-append, length-drop}
 use lib.Seq.{drop-append-le, drop-drop}
-use Rattle.refusals.specs.Refusals.{Result, refused, ok}
+use Rattle.refusals.specs.Refusals.{Result}
 use Rattle.records.specs.Records.{Change, Read, change_words, read_first}
 use Rattle.standby.specs.declared.Numbers.{Numbers}
 use Rattle.standby.specs.Arriving.{Left, arrival}
@@ -82,13 +82,13 @@ counted_stop w s = refl
 
 counted-arrival : (w : ℕ) (call : Result Left) (k : ℕ) (s : Standing) → after_arrival call k (counted w s) ≡ counted w (after_arrival call k s)
 unfolding after_arrival stop counted
-counted-arrival w (refused cause) k s = refl
-counted-arrival w (ok r) k s = rw (add_assoc w s.words k)
+counted-arrival w (Err cause) k s = refl
+counted-arrival w (Ok r) k s = rw (add_assoc w s.words k)
 
 counted-record : (w : ℕ) (o : Option (Read Change)) (s : Standing) → after_record o (counted w s) ≡ counted w (after_record o s)
 unfolding after_record
-counted-record w none s = counted_stop w s
-counted-record w (some r) s = unfold counted in counted-arrival w (arrival s.memory (change_words r.value) s.numbers) (length (change_words r.value)) s
+counted-record w None s = counted_stop w s
+counted-record w (Some r) s = unfold counted in counted-arrival w (arrival s.memory (change_words r.value) s.numbers) (length (change_words r.value)) s
 
 module _ (w : ℕ) (input : List ℕ) where
   counted-untaken : (s : Standing) → untaken (counted w s) input ≡ untaken s (drop (4 * w) input)

@@ -1,7 +1,6 @@
 -- What a standby holds after input of records, and where reading stopped. Scope, "Handover, at the top" (`holdlist`).
-use Rattle.std.specs.Prelude.{ℕ, zero, suc, ◌+◌, ◌*◌, ◌-◌, ◌≡◌, List, Bool, true, false, ◌||◌, cond, length, drop, leb}
-use Rattle.std.proofs.Math.Option.{Option, none, some}
-use Rattle.refusals.specs.Refusals.{Result, refused, ok}
+use Rattle.std.specs.Prelude.{ℕ, zero, suc, ◌+◌, ◌*◌, ◌-◌, ◌≡◌, List, Bool, true, false, ◌||◌, cond, length, drop, leb, Option, None, Some, Ok, Err}
+use Rattle.refusals.specs.Refusals.{Result}
 pub use Rattle.records.specs.Numbers.{record_space}
 use Rattle.records.specs.Records.{Change, Read, change_words, read_first}
 use Rattle.standby.specs.declared.Numbers.{Numbers}
@@ -26,13 +25,13 @@ stop s = record { memory = s.memory; numbers = s.numbers; words = s.words; stopp
 
 -- a record of k words arrives; one that is refused ends reading
 unfoldable pub after_arrival : Result Left → ℕ → Standing → Standing
-after_arrival (refused cause) k s = stop s
-after_arrival (ok left) k s = record { memory = left.memory; numbers = left.numbers; words = s.words + k; stopped = false }
+after_arrival (Err cause) k s = stop s
+after_arrival (Ok left) k s = record { memory = left.memory; numbers = left.numbers; words = s.words + k; stopped = false }
 
 -- the record that the words begin with ends where its own act and length say; a malformed one ends reading
 unfoldable pub after_record : Option (Read Change) → Standing → Standing
-after_record none s = stop s
-after_record (some r) s = after_arrival (arrival s.memory (change_words r.value) s.numbers) (length (change_words r.value)) s
+after_record None s = stop s
+after_record (Some r) s = after_arrival (arrival s.memory (change_words r.value) s.numbers) (length (change_words r.value)) s
 
 -- the input after what was taken; a broken word leaves no whole word, which is malformed
 abbrev pub untaken : Standing → List ℕ → List ℕ

@@ -1,8 +1,8 @@
 -- An image has at most 11,352 words and reads back as itself, and a table that memory holds has one.
+use Rattle.std.specs.Prelude.{Some}
 use Prim.Native.Nat.{ℕ, zero, suc, ◌+◌, ◌*◌, ◌/◌, ◌≤◌}
 use mathlib.Core.Path.{◌≡◌, refl, sym, ap, ◌∙◌}
 use mathlib.Core.List.{List, [], ◌∷◌, ◌++◌, append-nil, append_assoc}
-use mathlib.Core.Option.{some}
 use mathlib.Core.Bool.{true}
 use native.Mathlib.Omega.{arith}
 use lib.ListN.{length, length-append}
@@ -97,7 +97,7 @@ module _ (kind size : ℕ) (few : kind ≤ max_kind) (some_byte : 1 ≤ size) (s
   entry-word = rw (eq-eqb (entry_word kind size / 262144) (entry_kind * 1024) (omega arith), entry-size, le-leb 1 size some_byte, le-leb size max_path short)
 
 -- whatever words follow
-pub entry_read : (e : Entry) (ws : List ℕ) → is_entry e ≡ true → Bytes e.path → read_entry (entry_words e ++ ws) ≡ some (record { value = e; rest = ws })
+pub entry_read : (e : Entry) (ws : List ℕ) → is_entry e ≡ true → Bytes e.path → read_entry (entry_words e ++ ws) ≡ Some (record { value = e; rest = ws })
 unfolding read_entry entry_words if_resolved with_kind is_entry is_path
 entry_read e ws ok B =
     let p = e.path in
@@ -113,10 +113,10 @@ entry_read e ws ok B =
       path-back p ws B,
       resolved,
     )
-    (ap (λ (x : Kind). some (record { value = record { kind = x; path = p }; rest = ws })) (kind-number e.kind))
+    (ap (λ (x : Kind). Some (record { value = record { kind = x; path = p }; rest = ws })) (kind-number e.kind))
 
 pub entries-read : {es : List Entry} (ws : List ℕ) → every is_entry es ≡ true → PathBytes es
-    → read_entries (length es) (all_entry_words es ++ ws) ≡ some (record { value = es; rest = ws })
+    → read_entries (length es) (all_entry_words es ++ ws) ≡ Some (record { value = es; rest = ws })
 unfolding read_entries all_entry_words then_entries with_entry every
 entries-read ws ok no-entry = refl
 entries-read ws ok (entry_more {e = e} {es = es} B R) =
@@ -147,7 +147,7 @@ module _ (switches marks count : ℕ) (s : switches ≤ max_switches) (m : marks
   table-count : count_bits (table_word switches marks count) ≡ count
   table-count = omega arith
 
-pub image-read : {i : Image} → Writable i → read_image (image_words i) ≡ some i
+pub image-read : {i : Image} → Writable i → read_image (image_words i) ≡ Some i
 unfolding read_image read_table image_words with_entries image_if
 image-read {i} W =
     let t = i.table in

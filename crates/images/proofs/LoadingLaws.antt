@@ -1,8 +1,9 @@
 -- Laws of loading a table: entries read and written one after the other.
+use Rattle.refusals.proofs.CauseLaws.{Some-injective}
+use Rattle.std.specs.Prelude.{Option, None, Some}
 use Prim.Native.Nat.{ℕ, ◌+◌, ◌-◌, ◌≤◌, ◌<◌}
 use mathlib.Core.Path.{◌≡◌, refl, sym, ap, ◌∙◌}
 use mathlib.Core.List.{List, [], ◌∷◌, ◌++◌, append-nil}
-use mathlib.Core.Option.{Option, none, some, some-injective}
 use native.Mathlib.Omega.{arith}
 use lib.ListN.{length, take, drop, length-append}
 use lib.Seq.{take_at}
@@ -27,24 +28,24 @@ use Rattle.images.proofs.ReadingLaws.{Told, told-nothing, entries-stop, entries-
 -- entries that were read, the first of them and the others
 record Split (e : Entry) (o : Option (Read (List Entry))) (es : List Entry) : Type 0 where
   others : List Entry
-  read : o ≡ some (record { value = others; rest = [] })
+  read : o ≡ Some (record { value = others; rest = [] })
   all : es ≡ e ∷ others
 
-split : (e : Entry) (o : Option (Read (List Entry))) {es : List Entry} → with_entry e o ≡ some (record { value = es; rest = [] }) → Split e o es
+split : (e : Entry) (o : Option (Read (List Entry))) {es : List Entry} → with_entry e o ≡ Some (record { value = es; rest = [] }) → Split e o es
 unfolding with_entry
-split e none q = absurd (never q)
-split e (some r) q =
-    let same = some-injective _ _ q in
+split e None q = absurd (never q)
+split e (Some r) q =
+    let same = Some-injective _ _ q in
     record {
       others = r.value;
-      read = ap (λ (x : Read (List Entry)). some (record { value = r.value; rest = x.rest })) same;
+      read = ap (λ (x : Read (List Entry)). Some (record { value = r.value; rest = x.rest })) same;
       all = sym (ap (λ (x : Read (List Entry)). x.value) same);
     }
 
 -- whatever writing the entries that are left comes to, writing all of them comes to that
 pub record Loading (ws : List ℕ) (es : List Entry) (m m' : List ℕ) (from at left : ℕ) : Type 0 where
   pub rest : List Entry
-  pub reads : read_entries left (drop from ws) ≡ some (record { value = rest; rest = [] })
+  pub reads : read_entries left (drop from ws) ≡ Some (record { value = rest; rest = [] })
   pub goes : {m'' : List ℕ} {end : ℕ} → Appends (encode_all rest) m' at m'' end → Appends (encode_all es) m table_head m'' end
   pub room : at + length (encode_all rest) ≤ length m'
   pub same : length m' ≡ length m
@@ -115,7 +116,7 @@ module _ {ws : List ℕ} {es : List Entry} {m m' : List ℕ} {from at left : ℕ
   unfolding encode_all
   loading-over h =
       let none_left : L.rest ≡ [] =
-      ap (λ (x : Read (List Entry)). x.value) (some-injective _ _ (sym L.reads ∙ entries_none left (drop from ws) h))
+      ap (λ (x : Read (List Entry)). x.value) (Some-injective _ _ (sym L.reads ∙ entries_none left (drop from ws) h))
       in
       L.goes (appends-as (ap encode_all (sym none_left)) (appends-none m' at))
 

@@ -1,8 +1,8 @@
 -- Laws of reading an image: the answer at each way out of the code.
+use Rattle.std.specs.Prelude.{Option, None, Some}
 use Prim.Native.Nat.{ℕ, zero, suc, ◌+◌, ◌-◌, ◌*◌, ◌/◌, ◌≤◌, ◌<◌}
 use mathlib.Core.Path.{◌≡◌, refl, sym, ap, ◌∙◌}
 use mathlib.Core.List.{List, [], ◌∷◌}
-use mathlib.Core.Option.{Option, none, some}
 use mathlib.Core.Bool.{Bool, true, false, ◌&&◌, cond}
 use native.Mathlib.Nat.{add-zero, zero-add, add_assoc, not-suc-le-zero}
 use native.Mathlib.Omega.{arith}
@@ -63,7 +63,7 @@ and-off false = refl
 
 -- ---- an entry
 
-reads-no-entry : {at : ℕ} {o : Option (Read Entry)} {space : List ℕ} → o ≡ none → ReadsEntry at o space entry-answer.Malformed space
+reads-no-entry : {at : ℕ} {o : Option (Read Entry)} {space : List ℕ} → o ≡ None → ReadsEntry at o space entry-answer.Malformed space
 unfolding entry_answer entry_into
 reads-no-entry e = record { answer = rw e; bytes = rw e }
 
@@ -75,8 +75,8 @@ entry-at-end ws at e = reads-no-entry (ap read_entry (no_word (drop at ws) e))
 of-path : (at behind : ℕ) (kind : Kind) (o : Option (Read (List ℕ))) {space after : List ℕ} {p : PathRead} → behind ≡ at + 1 → ReadsPath behind o space p after
     → ReadsEntry at (with_kind kind o) space (kind_entry kind p) after
 unfolding with_kind kind_entry entry_answer entry_into entry_words path_answer path_into
-of-path at behind kind none e R = record { answer = rw R.answer; bytes = R.bytes }
-of-path at behind kind (some p) e R = record {
+of-path at behind kind None e R = record { answer = rw R.answer; bytes = R.bytes }
+of-path at behind kind (Some p) e R = record {
   answer = rw R.answer (ap (entry-answer.Entry kind (length p.value)) (omega arith));
   bytes = R.bytes;
 }
@@ -115,7 +115,7 @@ module _ {ws : List ℕ} {at w behind : ℕ} (S : Stands ws at w behind) where
 -- what the answer tells of the entry that was read
 pub record Told (ws : List ℕ) (at : ℕ) (kind : Kind) (n end : ℕ) : Type 0 where
   pub entry : Entry
-  pub read : read_entry (drop at ws) ≡ some (record { value = entry; rest = drop end ws })
+  pub read : read_entry (drop at ws) ≡ Some (record { value = entry; rest = drop end ws })
   pub is : is_entry entry ≡ true
   pub same_kind : kind ≡ entry.kind
   pub size : n ≡ length entry.path
@@ -127,8 +127,8 @@ unfolding entry_answer is_entry entry_words
 told ws at {kind} {n} {end} e = go (read_entry (drop at ws)) refl e
   where
     go : (o : Option (Read Entry)) → read_entry (drop at ws) ≡ o → entry-answer.Entry kind n end ≡ entry_answer at o → Told ws at kind n end
-    go none f q = let z : ◌≡◌ {A = ℕ} 0 1 = cc in absurd (omega arith)
-    go (some r) f q =
+    go None f q = let z : ◌≡◌ {A = ℕ} 0 1 = cc in absurd (omega arith)
+    go (Some r) f q =
         let W = entry-written (drop at ws) f in
         let L = length (entry_words r.value) in
         let size : n ≡ length r.value.path = cc in
@@ -138,7 +138,7 @@ told ws at {kind} {n} {end} e = go (read_entry (drop at ws)) refl e
         in
         record {
           entry = r.value;
-          read = f ∙ ap (λ (l : List ℕ). some (record { value = r.value; rest = l })) rest;
+          read = f ∙ ap (λ (l : List ℕ). Some (record { value = r.value; rest = l })) rest;
           is = W.entry;
           same_kind = cc;
           size = size;
@@ -146,10 +146,10 @@ told ws at {kind} {n} {end} e = go (read_entry (drop at ws)) refl e
           inside = omega (arith, length-drop at ws, ap length W.words ∙ length-append (entry_words r.value) r.rest);
         }
 
-pub told-nothing : (at : ℕ) (o : Option (Read Entry)) → entry-answer.Malformed ≡ entry_answer at o → o ≡ none
+pub told-nothing : (at : ℕ) (o : Option (Read Entry)) → entry-answer.Malformed ≡ entry_answer at o → o ≡ None
 unfolding entry_answer
-told-nothing at none e = refl
-told-nothing at (some r) e = let z : ◌≡◌ {A = ℕ} 0 1 = cc in absurd (omega arith)
+told-nothing at None e = refl
+told-nothing at (Some r) e = let z : ◌≡◌ {A = ℕ} 0 1 = cc in absurd (omega arith)
 
 -- ---- entries one after another
 
@@ -157,16 +157,16 @@ next-entries : (n : ℕ) (ws : List ℕ) → 0 < n → read_entries n ws ≡ the
 unfolding read_entries
 next-entries n ws h = ap (λ (k : ℕ). read_entries k ws) (pred-suc n h)
 
-pub entries-stop : (n : ℕ) (ws : List ℕ) → 0 < n → read_entry ws ≡ none → read_entries n ws ≡ none
+pub entries-stop : (n : ℕ) (ws : List ℕ) → 0 < n → read_entry ws ≡ None → read_entries n ws ≡ None
 unfolding then_entries
 entries-stop n ws h e = next-entries n ws h ∙ rw e
 
-pub entries-go : (n : ℕ) (ws : List ℕ) {e : Entry} {rest : List ℕ} → 0 < n → read_entry ws ≡ some (record { value = e; rest = rest })
+pub entries-go : (n : ℕ) (ws : List ℕ) {e : Entry} {rest : List ℕ} → 0 < n → read_entry ws ≡ Some (record { value = e; rest = rest })
     → read_entries n ws ≡ with_entry e (read_entries (n - 1) rest)
 unfolding then_entries
 entries-go n ws h e = next-entries n ws h ∙ rw e
 
-pub entries_none : (n : ℕ) (ws : List ℕ) → n ≤ 0 → read_entries n ws ≡ some (record { value = []; rest = ws })
+pub entries_none : (n : ℕ) (ws : List ℕ) → n ≤ 0 → read_entries n ws ≡ Some (record { value = []; rest = ws })
 unfolding read_entries
 entries_none zero ws h = refl
 entries_none (suc n) ws h = absurd (not-suc-le-zero h)
@@ -174,19 +174,19 @@ entries_none (suc n) ws h = absurd (not-suc-le-zero h)
 -- ---- the test of all entries, with the path bytes and the marks met so far
 
 unfoldable pub are_from : ℕ → ℕ → ℕ → Option (Read (List Entry)) → Bool
-are_from total seen marks none = false
-are_from total seen marks (some r) = is_end r.rest && leb (total + path_bytes r.value) max_path_bytes && eqb marks (marks_after seen r.value)
+are_from total seen marks None = false
+are_from total seen marks (Some r) = is_end r.rest && leb (total + path_bytes r.value) max_path_bytes && eqb marks (marks_after seen r.value)
 
 from_start : (marks : ℕ) (o : Option (Read (List Entry))) → are_entries marks o ≡ are_from 0 0 marks o
 unfolding are_entries are_from
-from_start marks none = refl
-from_start marks (some r) = rw (marks-after r.value, zero-add (path_bytes r.value))
+from_start marks None = refl
+from_start marks (Some r) = rw (marks-after r.value, zero-add (path_bytes r.value))
 
 from-entry : (total seen marks : ℕ) (e : Entry) (o : Option (Read (List Entry)))
     → are_from total seen marks (with_entry e o) ≡ are_from (total + length e.path) (marked e.kind seen) marks o
 unfolding are_from with_entry path_bytes marks_after
-from-entry total seen marks e none = refl
-from-entry total seen marks e (some r) = rw (add_assoc total (length e.path) (path_bytes r.value))
+from-entry total seen marks e None = refl
+from-entry total seen marks e (Some r) = rw (add_assoc total (length e.path) (path_bytes r.value))
 
 -- `left` of `count` entries are to be tested
 pub record Testing (ws : List ℕ) (from count marks at left total seen : ℕ) : Type 0 where
@@ -240,8 +240,8 @@ and-on false = refl
 
 -- what the test of its entries says is whether the content of words is a table
 table-if : (run number switches marks : ℕ) (r : Read (List Entry)) → switches ≤ max_switches → length r.value ≤ max_entries → every is_entry r.value ≡ true
-    → with_entries run number switches marks (some r)
-    ≡ cond (are_entries marks (some r)) (some (record { run = run; number = number; table = record { entries = r.value; switches = switches; marks = marks } })) none
+    → with_entries run number switches marks (Some r)
+    ≡ cond (are_entries marks (Some r)) (Some (record { run = run; number = number; table = record { entries = r.value; switches = switches; marks = marks } })) None
 unfolding with_entries image_if are_entries is_end is_table
 table-if run number switches marks r low few each = go r.rest refl
   where
@@ -250,7 +250,7 @@ table-if run number switches marks r low few each = go r.rest refl
 
     go : (rest : List ℕ) → r.rest ≡ rest
         → image_if (record { run = run; number = number; table = record { entries = r.value; switches = switches; marks = marks } }) rest
-        ≡ cond (is_end rest && leb (path_bytes r.value) max_path_bytes && eqb marks (marks_of r.value)) (some (record { run = run; number = number; table = record { entries = r.value; switches = switches; marks = marks } })) none
+        ≡ cond (is_end rest && leb (path_bytes r.value) max_path_bytes && eqb marks (marks_of r.value)) (Some (record { run = run; number = number; table = record { entries = r.value; switches = switches; marks = marks } })) None
     go [] e = rw (le-leb (length r.value) max_entries few, each, le-leb switches max_switches low, and-on (leb (path_bytes r.value) max_path_bytes), and-on (leb (path_bytes r.value) max_path_bytes))
     go (w ∷ ws) e = refl
 
@@ -260,36 +260,36 @@ answered : (run number switches marks count : ℕ) (ws : List ℕ) → switches 
 unfolding with_entries image_answer are_entries
 answered run number switches marks count ws low few = go (read_entries count ws) refl
   where
-    picked : (b : Bool) (i : Image) → image_answer (cond b (some i) none) ≡ cond b (image_answer (some i)) answer.Malformed
+    picked : (b : Bool) (i : Image) → image_answer (cond b (Some i) None) ≡ cond b (image_answer (Some i)) answer.Malformed
     picked true i = refl
     picked false i = refl
 
     go : (o : Option (Read (List Entry))) → read_entries count ws ≡ o
         → image_answer (with_entries run number switches marks o) ≡ cond (are_entries marks o) (answer.Image run number switches marks count) answer.Malformed
-    go none e = refl
-    go (some r) e =
+    go None e = refl
+    go (Some r) e =
         let W = entries-written count ws e in
         ap image_answer (table-if run number switches marks r low (omega (arith, W.count)) W.each)
-        ∙ picked (are_entries marks (some r)) _
+        ∙ picked (are_entries marks (Some r)) _
         ∙ rw W.count
 
 -- more entries than a table has
-too_many : (run number switches marks count : ℕ) (ws : List ℕ) → max_entries < count → with_entries run number switches marks (read_entries count ws) ≡ none
+too_many : (run number switches marks count : ℕ) (ws : List ℕ) → max_entries < count → with_entries run number switches marks (read_entries count ws) ≡ None
 unfolding with_entries image_if is_table
 too_many run number switches marks count ws many = go (read_entries count ws) refl
   where
     full : (r : Read (List Entry)) (rest : List ℕ) → max_entries < length r.value
-        → image_if (record { run = run; number = number; table = record { entries = r.value; switches = switches; marks = marks } }) rest ≡ none
+        → image_if (record { run = run; number = number; table = record { entries = r.value; switches = switches; marks = marks } }) rest ≡ None
     full r [] h = rw (lt-leb (length r.value) max_entries h)
     full r (w ∷ ws) h = refl
 
-    go : (o : Option (Read (List Entry))) → read_entries count ws ≡ o → with_entries run number switches marks o ≡ none
-    go none e = refl
-    go (some r) e = full r r.rest (omega (arith, (entries-written count ws e).count))
+    go : (o : Option (Read (List Entry))) → read_entries count ws ≡ o → with_entries run number switches marks o ≡ None
+    go None e = refl
+    go (Some r) e = full r r.rest (omega (arith, (entries-written count ws e).count))
 
 -- ---- an image by its front
 
-run-missing : (ws : List ℕ) → run_of (first_word ws) ≡ 0 → read_image ws ≡ none
+run-missing : (ws : List ℕ) → run_of (first_word ws) ≡ 0 → read_image ws ≡ None
 unfolding first_word read_image
 run-missing [] e = refl
 run-missing (w ∷ ws) e = rw (no-run-word w e)
@@ -328,17 +328,17 @@ module _ (ws : List ℕ) {run : ℕ} {f : Front} (F : f ≡ front_at ws 0) where
 
 module _ {ws : List ℕ} {run a b at : ℕ} (F : Fronted ws run a b at) where
   image-as : read_image ws
-      ≡ cond (is_number_word a && is_table_word b) (with_entries run (number_bits a) (switches_bits b) (marks_bits b) (read_entries (count_bits b) (drop at ws))) none
+      ≡ cond (is_number_word a && is_table_word b) (with_entries run (number_bits a) (switches_bits b) (marks_bits b) (read_entries (count_bits b) (drop at ws))) None
   unfolding read_table
   image-as = F.reads
 
   pub number-other : (a / act_unit ≡ number_kind * 16 → ⊥) → answer.Malformed ≡ image_answer (read_image ws)
   unfolding is_number_word image_answer
-  number-other k = let e : read_image ws ≡ none = image-as ∙ rw (ne_eqb (a / act_unit) (number_kind * 16) k) in rw e
+  number-other k = let e : read_image ws ≡ None = image-as ∙ rw (ne_eqb (a / act_unit) (number_kind * 16) k) in rw e
 
   pub table-other : (b / 131072 ≡ table_kind * 2048 → ⊥) → answer.Malformed ≡ image_answer (read_image ws)
   unfolding is_table_word image_answer
-  table-other k = let e : read_image ws ≡ none = image-as ∙ rw (ne_eqb (b / 131072) (table_kind * 2048) k, and-off (is_number_word a)) in rw e
+  table-other k = let e : read_image ws ≡ None = image-as ∙ rw (ne_eqb (b / 131072) (table_kind * 2048) k, and-off (is_number_word a)) in rw e
 
   module _ (n : a / act_unit ≡ number_kind * 16) (t : b / 131072 ≡ table_kind * 2048) where
     image-is : read_image ws ≡ with_entries run (number_bits a) (switches_bits b) (marks_bits b) (read_entries (count_bits b) (drop at ws))
@@ -363,10 +363,10 @@ module _ {ws : List ℕ} {run a b at : ℕ} (F : Fronted ws run a b at) where
       image-taken f = sym (told-by ∙ rw f)
 
 -- what the answer tells of the image that was read
-pub no-image-told : (o : Option Image) → answer.Malformed ≡ image_answer o → o ≡ none
+pub no-image-told : (o : Option Image) → answer.Malformed ≡ image_answer o → o ≡ None
 unfolding image_answer
-no-image-told none e = refl
-no-image-told (some i) e = let z : ◌≡◌ {A = ℕ} 0 1 = cc in absurd (omega arith)
+no-image-told None e = refl
+no-image-told (Some i) e = let z : ◌≡◌ {A = ℕ} 0 1 = cc in absurd (omega arith)
 
 pub record ImageTold (o : Option Image) (run number switches marks count : ℕ) : Type 0 where
   pub read : IsRead o switches marks count
@@ -376,8 +376,8 @@ pub record ImageTold (o : Option Image) (run number switches marks count : ℕ) 
 pub image-told : (o : Option Image) {run number switches marks count : ℕ} → answer.Image run number switches marks count ≡ image_answer o
     → ImageTold o run number switches marks count
 unfolding image_answer
-image-told none e = let z : ◌≡◌ {A = ℕ} 0 1 = cc in absurd (omega arith)
-image-told (some i) e = record {
+image-told None e = let z : ◌≡◌ {A = ℕ} 0 1 = cc in absurd (omega arith)
+image-told (Some i) e = record {
   read = record { value = i; is = refl; same-switches = cc; same-marks = cc; same_count = cc };
   same-run = cc;
   same_number = cc;

@@ -1,8 +1,9 @@
 -- Words that are not malformed are the writing of what was read, and what was read can be written: a table with its run and number has one image.
+use Rattle.refusals.proofs.CauseLaws.{Some-injective}
+use Rattle.std.specs.Prelude.{Option, None, Some}
 use Prim.Native.Nat.{ℕ, zero, suc, ◌*◌, ◌/◌, ◌≤◌}
 use mathlib.Core.Path.{◌≡◌, refl, sym, ap, subst, ◌∙◌}
 use mathlib.Core.List.{List, [], ◌∷◌, ◌++◌, append-nil, append_assoc}
-use mathlib.Core.Option.{Option, none, some, some-injective}
 use mathlib.Core.Bool.{Bool, true, false, ◌&&◌, cond}
 use native.Mathlib.Omega.{arith}
 use lib.ListN.{length}
@@ -91,20 +92,20 @@ pub record EntryWritten (ws : List ℕ) (r : Read Entry) : Type 0 where
 -- a path was read, and it is resolved
 record OfKind (kind : Kind) (o : Option (Read (List ℕ))) (r : Read Entry) : Type 0 where
   p : Read (List ℕ)
-  path : o ≡ some p
+  path : o ≡ Some p
   resolved : is_resolved p.value ≡ true
   whole : record { value = record { kind = kind; path = p.value }; rest = p.rest } ≡ r
 
-of-kind : (kind : Kind) (o : Option (Read (List ℕ))) {r : Read Entry} → with_kind kind (if_resolved o) ≡ some r → OfKind kind o r
+of-kind : (kind : Kind) (o : Option (Read (List ℕ))) {r : Read Entry} → with_kind kind (if_resolved o) ≡ Some r → OfKind kind o r
 unfolding with_kind if_resolved
-of-kind kind none e = absurd (never e)
-of-kind kind (some p) {r} e = go (is_resolved p.value) refl e
+of-kind kind None e = absurd (never e)
+of-kind kind (Some p) {r} e = go (is_resolved p.value) refl e
   where
-    go : (b : Bool) → is_resolved p.value ≡ b → with_kind kind (cond b (some p) none) ≡ some r → OfKind kind (some p) r
-    go true x y = record { p = p; path = refl; resolved = x; whole = some-injective _ _ y }
+    go : (b : Bool) → is_resolved p.value ≡ b → with_kind kind (cond b (Some p) None) ≡ Some r → OfKind kind (Some p) r
+    go true x y = record { p = p; path = refl; resolved = x; whole = Some-injective _ _ y }
     go false x y = absurd (never y)
 
-pub entry-written : (ws : List ℕ) {r : Read Entry} → read_entry ws ≡ some r → EntryWritten ws r
+pub entry-written : (ws : List ℕ) {r : Read Entry} → read_entry ws ≡ Some r → EntryWritten ws r
 unfolding read_entry entry_words is_entry is_path
 entry-written [] e = absurd (never e)
 entry-written (w ∷ ws) e =
@@ -131,24 +132,24 @@ pub record EntriesWritten (n : ℕ) (ws : List ℕ) (r : Read (List Entry)) : Ty
 -- an entry was read, and those behind it
 record Then (o : Option (Read Entry)) (more : List ℕ → Option (Read (List Entry))) (r : Read (List Entry)) : Type 0 where
   e : Read Entry
-  here : o ≡ some e
+  here : o ≡ Some e
   es : Read (List Entry)
-  behind : more e.rest ≡ some es
+  behind : more e.rest ≡ Some es
   whole : record { value = e.value ∷ es.value; rest = es.rest } ≡ r
 
-then-entries : (o : Option (Read Entry)) (more : List ℕ → Option (Read (List Entry))) {r : Read (List Entry)} → then_entries o more ≡ some r → Then o more r
+then-entries : (o : Option (Read Entry)) (more : List ℕ → Option (Read (List Entry))) {r : Read (List Entry)} → then_entries o more ≡ Some r → Then o more r
 unfolding then_entries with_entry
-then-entries none more e = absurd (never e)
-then-entries (some x) more {r} e = go (more x.rest) refl e
+then-entries None more e = absurd (never e)
+then-entries (Some x) more {r} e = go (more x.rest) refl e
   where
-    go : (o : Option (Read (List Entry))) → more x.rest ≡ o → with_entry x.value o ≡ some r → Then (some x) more r
-    go none f g = absurd (never g)
-    go (some es) f g = record { e = x; here = refl; es = es; behind = f; whole = some-injective _ _ g }
+    go : (o : Option (Read (List Entry))) → more x.rest ≡ o → with_entry x.value o ≡ Some r → Then (Some x) more r
+    go None f g = absurd (never g)
+    go (Some es) f g = record { e = x; here = refl; es = es; behind = f; whole = Some-injective _ _ g }
 
-pub entries-written : (n : ℕ) (ws : List ℕ) {r : Read (List Entry)} → read_entries n ws ≡ some r → EntriesWritten n ws r
+pub entries-written : (n : ℕ) (ws : List ℕ) {r : Read (List Entry)} → read_entries n ws ≡ Some r → EntriesWritten n ws r
 unfolding read_entries all_entry_words every
 entries-written zero ws e =
-    subst (EntriesWritten zero ws) (some-injective _ _ e) (record { words = refl; count = refl; each = refl; bytes = no-entry })
+    subst (EntriesWritten zero ws) (Some-injective _ _ e) (record { words = refl; count = refl; each = refl; bytes = no-entry })
 entries-written (suc n) ws e =
     let T = then-entries (read_entry ws) (λ rest. read_entries n rest) e in
     let E = entry-written ws T.here in
@@ -166,21 +167,21 @@ entries-written (suc n) ws e =
 -- entries were read to the words' end, and they are a table's
 record OfEntries (run number switches marks : ℕ) (o : Option (Read (List Entry))) (i : Image) : Type 0 where
   es : List Entry
-  all : o ≡ some (record { value = es; rest = [] })
+  all : o ≡ Some (record { value = es; rest = [] })
   within : is_table (record { entries = es; switches = switches; marks = marks }) ≡ true
   whole : record { run = run; number = number; table = record { entries = es; switches = switches; marks = marks } } ≡ i
 
-of-entries : (run number switches marks : ℕ) (o : Option (Read (List Entry))) {i : Image} → with_entries run number switches marks o ≡ some i
+of-entries : (run number switches marks : ℕ) (o : Option (Read (List Entry))) {i : Image} → with_entries run number switches marks o ≡ Some i
     → OfEntries run number switches marks o i
 unfolding with_entries image_if
-of-entries run number switches marks none e = absurd (never e)
-of-entries run number switches marks (some r) {i} e = go r.value r.rest e
+of-entries run number switches marks None e = absurd (never e)
+of-entries run number switches marks (Some r) {i} e = go r.value r.rest e
   where
-    go : (es : List Entry) (rest : List ℕ) → with_entries run number switches marks (some (record { value = es; rest = rest })) ≡ some i
-        → OfEntries run number switches marks (some (record { value = es; rest = rest })) i
+    go : (es : List Entry) (rest : List ℕ) → with_entries run number switches marks (Some (record { value = es; rest = rest })) ≡ Some i
+        → OfEntries run number switches marks (Some (record { value = es; rest = rest })) i
     go es [] x =
         let C = if_some (is_table (record { entries = es; switches = switches; marks = marks })) x in
-        record { es = es; all = refl; within = C.0; whole = some-injective _ _ C.1 }
+        record { es = es; all = refl; within = C.0; whole = Some-injective _ _ C.1 }
     go es (w ∷ ws) x = absurd (never x)
 
 -- words that are an image's, which can be written
@@ -189,7 +190,7 @@ record ImageWritten (ws : List ℕ) (i : Image) : Type 0 where
   writable : Writable i
 
 -- a run word v, and what follows it
-table-written : (v : ℕ) (ws : List ℕ) {i : Image} → is_run_word v ≡ true → read_table (low_of_word v) ws ≡ some i → ImageWritten (v ∷ ws) i
+table-written : (v : ℕ) (ws : List ℕ) {i : Image} → is_run_word v ≡ true → read_table (low_of_word v) ws ≡ Some i → ImageWritten (v ∷ ws) i
 unfolding read_table image_words
 table-written v [] R e = absurd (never e)
 table-written v (w ∷ []) R e = absurd (never e)
@@ -205,20 +206,20 @@ table-written v (w ∷ x ∷ ws) R e =
       writable = record { of_run = run-right v R; few = omega arith; within = O.within; bytes = E.bytes };
     })
 
-written : (ws : List ℕ) {i : Image} → read_image ws ≡ some i → ImageWritten ws i
+written : (ws : List ℕ) {i : Image} → read_image ws ≡ Some i → ImageWritten ws i
 unfolding read_image
 written [] e = absurd (never e)
 written (w ∷ ws) e = let C = if_some (is_run_word w) e in table-written w ws C.0 C.1
 
-pub image-written : (ws : List ℕ) {i : Image} → read_image ws ≡ some i → (image_words i ≡ ws)
+pub image-written : (ws : List ℕ) {i : Image} → read_image ws ≡ Some i → (image_words i ≡ ws)
 image-written ws e = (written ws e).words
 
-pub image-writable : (ws : List ℕ) {i : Image} → read_image ws ≡ some i → Writable i
+pub image-writable : (ws : List ℕ) {i : Image} → read_image ws ≡ Some i → Writable i
 image-writable ws e = (written ws e).writable
 
-pub image-within : (ws : List ℕ) {i : Image} → read_image ws ≡ some i → (is_table i.table ≡ true) × (i.number ≤ max_number)
+pub image-within : (ws : List ℕ) {i : Image} → read_image ws ≡ Some i → (is_table i.table ≡ true) × (i.number ≤ max_number)
 image-within ws e = let W = image-writable ws e in (W.within, W.few)
 
 -- and an image is of one table, with one run and one number
 pub one-image : {i j : Image} → Writable i → Writable j → image_words i ≡ image_words j → i ≡ j
-one-image W X e = some-injective _ _ (sym (image-read W) ∙ ap read_image e ∙ image-read X)
+one-image W X e = Some-injective _ _ (sym (image-read W) ∙ ap read_image e ∙ image-read X)

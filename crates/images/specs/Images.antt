@@ -1,7 +1,6 @@
 -- Images: a whole table with its run and the number of its last change, as 32-bit words, and back. Scope, "A table for a standby that joins late", and "A main
 -- that starts over".
-use Rattle.std.specs.Prelude.{ℕ, zero, suc, ◌+◌, ◌*◌, ◌/◌, ◌%◌, ◌≤◌, ◌≡◌, List, [], ◌∷◌, ◌++◌, Bool, true, ◌&&◌, cond, length, leb, eqb}
-use Rattle.std.proofs.Math.Option.{Option, none, some}
+use Rattle.std.specs.Prelude.{ℕ, zero, suc, ◌+◌, ◌*◌, ◌/◌, ◌%◌, ◌≤◌, ◌≡◌, List, [], ◌∷◌, ◌++◌, Bool, true, ◌&&◌, cond, length, leb, eqb, Option, None, Some}
 use Rattle.paths.specs.Components.{Bytes}
 use Rattle.paths.specs.Resolving.{max_path}
 use Rattle.table.specs.declared.Kind.{Kind}
@@ -114,46 +113,46 @@ unfoldable pub is_entry_word : ℕ → Bool
 is_entry_word w = eqb (w / 262144) (entry_kind * 1024) && leb 1 (size_bits w) && leb (size_bits w) max_path
 
 unfoldable pub with_kind : Kind → Option (Read (List ℕ)) → Option (Read Entry)
-with_kind kind none = none
-with_kind kind (some p) = some (record { value = record { kind = kind; path = p.value }; rest = p.rest })
+with_kind kind None = None
+with_kind kind (Some p) = Some (record { value = record { kind = kind; path = p.value }; rest = p.rest })
 
 -- the entry that words begin with; its path words, and that its path must be in resolved form, are a record's
 unfoldable pub read_entry : List ℕ → Option (Read Entry)
-read_entry [] = none
-read_entry (w ∷ ws) = cond (is_entry_word w) (with_kind (kind_from (kind_bits w)) (if_resolved (bytes_from (size_bits w) ws))) none
+read_entry [] = None
+read_entry (w ∷ ws) = cond (is_entry_word w) (with_kind (kind_from (kind_bits w)) (if_resolved (bytes_from (size_bits w) ws))) None
 
 -- an entry, before those that follow
 unfoldable pub with_entry : Entry → Option (Read (List Entry)) → Option (Read (List Entry))
-with_entry e none = none
-with_entry e (some r) = some (record { value = e ∷ r.value; rest = r.rest })
+with_entry e None = None
+with_entry e (Some r) = Some (record { value = e ∷ r.value; rest = r.rest })
 
 unfoldable pub then_entries : Option (Read Entry) → (List ℕ → Option (Read (List Entry))) → Option (Read (List Entry))
-then_entries none more = none
-then_entries (some e) more = with_entry e.value (more e.rest)
+then_entries None more = None
+then_entries (Some e) more = with_entry e.value (more e.rest)
 
 -- as many entries as the count says
 unfoldable pub read_entries : ℕ → List ℕ → Option (Read (List Entry))
-read_entries zero ws = some (record { value = []; rest = ws })
+read_entries zero ws = Some (record { value = []; rest = ws })
 read_entries (suc n) ws = then_entries (read_entry ws) (λ rest. read_entries n rest)
 
 -- it must end where its words end, and its content must be a table
 unfoldable pub image_if : Image → List ℕ → Option Image
-image_if i [] = cond (is_table i.table) (some i) none
-image_if i (w ∷ ws) = none
+image_if i [] = cond (is_table i.table) (Some i) None
+image_if i (w ∷ ws) = None
 
 unfoldable pub with_entries : ℕ → ℕ → ℕ → ℕ → Option (Read (List Entry)) → Option Image
-with_entries run number switches marks none = none
-with_entries run number switches marks (some r) =
+with_entries run number switches marks None = None
+with_entries run number switches marks (Some r) =
     image_if (record { run = run; number = number; table = record { entries = r.value; switches = switches; marks = marks } }) r.rest
 
 -- what follows the run word: number and table words, and the entries
 unfoldable pub read_table : ℕ → List ℕ → Option Image
-read_table run [] = none
-read_table run (w ∷ []) = none
+read_table run [] = None
+read_table run (w ∷ []) = None
 read_table run (w ∷ x ∷ ws) =
-    cond (is_number_word w && is_table_word x) (with_entries run (number_bits w) (switches_bits x) (marks_bits x) (read_entries (count_bits x) ws)) none
+    cond (is_number_word w && is_table_word x) (with_entries run (number_bits w) (switches_bits x) (marks_bits x) (read_entries (count_bits x) ws)) None
 
 -- the image that words are, if they are one; else they are malformed, as without a run word, or their content is no table
 unfoldable pub read_image : List ℕ → Option Image
-read_image [] = none
-read_image (w ∷ ws) = cond (is_run_word w) (read_table (low_of_word w) ws) none
+read_image [] = None
+read_image (w ∷ ws) = cond (is_run_word w) (read_table (low_of_word w) ws) None

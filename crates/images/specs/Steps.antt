@@ -1,6 +1,5 @@
 -- Steps of reading an image: an entry, entries that are one table's, what reading answers, and the memory that a table is loaded into.
-use Rattle.std.specs.Prelude.{ℕ, ◌+◌, ◌≡◌, List, [], ◌∷◌, Bool, true, false, ◌&&◌, length, leb, eqb}
-use Rattle.std.proofs.Math.Option.{Option, none, some}
+use Rattle.std.specs.Prelude.{ℕ, ◌+◌, ◌≡◌, List, [], ◌∷◌, Bool, true, false, ◌&&◌, length, leb, eqb, Option, None, Some}
 use Rattle.paths.specs.Copying.{begun}
 use Rattle.table.specs.declared.Kind.{Kind}
 use Rattle.table.specs.Entries.{Entry}
@@ -24,13 +23,13 @@ kind_entry kind (path-answer.Path n end) = entry-answer.Entry kind n end
 
 -- an entry whose words begin at `at`: its kind, its path's length, and where the words behind it begin
 unfoldable pub entry_answer : ℕ → Option (Read Entry) → EntryRead
-entry_answer at none = entry-answer.Malformed
-entry_answer at (some r) = entry-answer.Entry r.value.kind (length r.value.path) (at + length (entry_words r.value))
+entry_answer at None = entry-answer.Malformed
+entry_answer at (Some r) = entry-answer.Entry r.value.kind (length r.value.path) (at + length (entry_words r.value))
 
 -- its path stands from the space's start, or the space is as it was
 unfoldable pub entry_into : Option (Read Entry) → List ℕ → List ℕ
-entry_into none space = space
-entry_into (some r) space = begun r.value.path space
+entry_into None space = space
+entry_into (Some r) space = begun r.value.path space
 
 pub record ReadsEntry (at : ℕ) (entry : Option (Read Entry)) (space : List ℕ) (r : EntryRead) (after : List ℕ) : Type 0 where
   pub answer : r ≡ entry_answer at entry
@@ -44,24 +43,24 @@ is_end (w ∷ ws) = false
 
 -- the entries that were read end where the words end, have no more path bytes than a table, and are of the kinds that the marks say
 unfoldable pub are_entries : ℕ → Option (Read (List Entry)) → Bool
-are_entries marks none = false
-are_entries marks (some r) = is_end r.rest && leb (path_bytes r.value) max_path_bytes && eqb marks (marks_of r.value)
+are_entries marks None = false
+are_entries marks (Some r) = is_end r.rest && leb (path_bytes r.value) max_path_bytes && eqb marks (marks_of r.value)
 
 -- ---- an image
 
 unfoldable pub image_answer : Option Image → ImageRead
-image_answer none = answer.Malformed
-image_answer (some i) = answer.Image i.run i.number i.table.switches i.table.marks (length i.table.entries)
+image_answer None = answer.Malformed
+image_answer (Some i) = answer.Image i.run i.number i.table.switches i.table.marks (length i.table.entries)
 
 -- an image was read, with a table of these switches, these marks and so many entries
 pub record IsRead (image : Option Image) (switches marks count : ℕ) : Type 0 where
   pub value : Image
-  pub is : image ≡ some value
+  pub is : image ≡ Some value
   pub same-switches : switches ≡ value.table.switches
   pub same-marks : marks ≡ value.table.marks
   pub same_count : count ≡ length value.table.entries
 
 -- memory with the image's table put into it
 unfoldable pub loaded_by : Option Image → List ℕ → List ℕ
-loaded_by none m = m
-loaded_by (some i) m = put i.table m
+loaded_by None m = m
+loaded_by (Some i) m = put i.table m

@@ -1,4 +1,5 @@
 -- Laws of a list as it is handed in: answers and end positions, one after the other.
+use Rattle.std.specs.Prelude.{Ok, Err}
 use Prim.Native.Nat.{ℕ, zero, suc, ◌+◌, ◌≤◌, ◌<◌}
 use mathlib.Core.Path.{◌≡◌, refl, sym, ap}
 use mathlib.Core.List.{List, [], ◌∷◌}
@@ -11,7 +12,7 @@ use lib.Seq.{drop-cons}
 use lib.Dec.{eqb, leb}
 use borrow.Author.Tests.{le-leb, lt-leb, leb-true, eqb-true}
 use Rattle.refusals.specs.declared.Refusal.TheVariants as refusal
-use Rattle.refusals.specs.Refusals.{Result, refused, ok, and_then}
+use Rattle.refusals.specs.Refusals.{Result, and_then}
 use Rattle.paths.proofs.ComponentLaws.{and_left, and_right}
 use Rattle.deciding.specs.declared.PromptResponse.{PromptResponse}
 use Rattle.deciding.specs.declared.ResponseRead.{ResponseRead}
@@ -52,7 +53,7 @@ never-unknown (n ∷ s) (suc i) a h e = never-unknown s i (and_right (is_respons
 -- the answers, read
 pub record Known (s : List ℕ) : Type 0 where
   pub responses : List PromptResponse
-  pub are : known_responses s ≡ ok responses
+  pub are : known_responses s ≡ Ok responses
 
 known_more : (r : ResponseRead) (n : ℕ) (s : List ℕ) → response_of n ≡ r → is_response r ≡ true → Known s → Known (n ∷ s)
 unfolding is_response known_responses known_response and_then
@@ -66,12 +67,12 @@ all_known (n ∷ s) a =
     known_more (response_of n) n s refl (and_left (is_response (response_of n)) _ a) (all_known s (and_right (is_response (response_of n)) _ a))
 
 unknown-more : (r : ResponseRead) (n : ℕ) (s : List ℕ) → response_of n ≡ r → is_response r && are_responses s ≡ false
-    → (are_responses s ≡ false → known_responses s ≡ refused refusal.Unknown) → known_responses (n ∷ s) ≡ refused refusal.Unknown
+    → (are_responses s ≡ false → known_responses s ≡ Err refusal.Unknown) → known_responses (n ∷ s) ≡ Err refusal.Unknown
 unfolding is_response known_responses known_response and_then
 unknown-more response-read.Unknown n s e h k = rw e
 unknown-more (response-read.Response known) n s e h k = rw (e, k h)
 
-pub not_known : (s : List ℕ) → are_responses s ≡ false → known_responses s ≡ refused refusal.Unknown
+pub not_known : (s : List ℕ) → are_responses s ≡ false → known_responses s ≡ Err refusal.Unknown
 unfolding are_responses
 not_known [] a = absurd (false≢true (sym a))
 not_known (n ∷ s) a = unknown-more (response_of n) n s refl a (not_known s)
@@ -84,20 +85,20 @@ record First (n : ℕ) (s : List ℕ) (known : List PromptResponse) : Type 0 whe
   rest : List PromptResponse
   all : known ≡ response ∷ rest
   first : response_of n ≡ response-read.Response response
-  others : known_responses s ≡ ok rest
+  others : known_responses s ≡ Ok rest
 
 first_by : (n : ℕ) (s : List ℕ) (known : List PromptResponse) (r : ResponseRead) (k : Result (List PromptResponse)) → response_of n ≡ r → known_responses s ≡ k
-    → and_then (known_response r) (λ response. and_then k (λ responses. ok (response ∷ responses))) ≡ ok known → First n s known
+    → and_then (known_response r) (λ response. and_then k (λ responses. Ok (response ∷ responses))) ≡ Ok known → First n s known
 unfolding known_response and_then
 first_by n s known response-read.Unknown k e f g = let z : ◌≡◌ {A = ℕ} 0 1 = cc in absurd (omega arith)
-first_by n s known (response-read.Response response) (refused cause) e f g = let z : ◌≡◌ {A = ℕ} 0 1 = cc in absurd (omega arith)
-first_by n s known (response-read.Response response) (ok rest) e f g = record { response = response; rest = rest; all = cc; first = e; others = f }
+first_by n s known (response-read.Response response) (Err cause) e f g = let z : ◌≡◌ {A = ℕ} 0 1 = cc in absurd (omega arith)
+first_by n s known (response-read.Response response) (Ok rest) e f g = record { response = response; rest = rest; all = cc; first = e; others = f }
 
-first_of : (n : ℕ) (s : List ℕ) (known : List PromptResponse) → known_responses (n ∷ s) ≡ ok known → First n s known
+first_of : (n : ℕ) (s : List ℕ) (known : List PromptResponse) → known_responses (n ∷ s) ≡ Ok known → First n s known
 unfolding known_responses
 first_of n s known e = first_by n s known (response_of n) (known_responses s) refl refl e
 
-pub known-drop : (s : List ℕ) (known : List PromptResponse) (i : ℕ) {response : PromptResponse} → known_responses s ≡ ok known → i < length s
+pub known-drop : (s : List ℕ) (known : List PromptResponse) (i : ℕ) {response : PromptResponse} → known_responses s ≡ Ok known → i < length s
     → response_of (get_or s i 0) ≡ response-read.Response response → drop i known ≡ response ∷ drop (i + 1) known
 known-drop [] known i k h e = absurd (not-suc-le-zero h)
 known-drop (n ∷ s) known zero k h e =

@@ -1,7 +1,7 @@
 -- A list of paths with an answer for each, as a call is handed one: the paths' bytes one after the other, the position at which each ends, and the operator's answers. Scope,
 -- "A call comes in".
-use Rattle.std.specs.Prelude.{ℕ, ◌-◌, List, [], ◌∷◌, Bool, ◌&&◌, take, drop, eqb, leb}
-use Rattle.refusals.specs.Refusals.{Result, ok, and_then}
+use Rattle.std.specs.Prelude.{ℕ, ◌-◌, List, [], ◌∷◌, Bool, ◌&&◌, take, drop, eqb, leb, Ok}
+use Rattle.refusals.specs.Refusals.{Result, and_then}
 use Rattle.paths.specs.declared.Descriptor.{Descriptor}
 use Rattle.paths.specs.declared.Descriptor.TheVariants.{Path}
 use Rattle.deciding.specs.declared.PromptResponse.{PromptResponse}
@@ -21,9 +21,9 @@ item_list bytes ends responses = record { bytes = bytes; ends = ends; responses 
 
 -- the answers, each of which must be known
 unfoldable pub known_responses : List ℕ → Result (List PromptResponse)
-known_responses [] = ok []
+known_responses [] = Ok []
 known_responses (n ∷ numbers) =
-    and_then (known_response (response_of n)) (λ response. and_then (known_responses numbers) (λ responses. ok (response ∷ responses)))
+    and_then (known_response (response_of n)) (λ response. and_then (known_responses numbers) (λ responses. Ok (response ∷ responses)))
 
 -- ---- items
 

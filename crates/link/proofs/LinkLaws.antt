@@ -1,15 +1,15 @@
 -- Laws of the link in a checking order: its record space and run, and what is known where they are passed.
+use Rattle.std.specs.Prelude.{Option, None, Some, Ok, Err}
 use Prim.Native.Nat.{ℕ, zero, suc, ◌+◌, ◌*◌, ◌/◌, ◌≤◌}
 use mathlib.Core.Path.{◌≡◌, refl}
 use mathlib.Core.List.{List}
-use mathlib.Core.Option.{Option, none, some}
 use mathlib.Core.Bool.{true, false}
 use native.Mathlib.Omega.{arith}
 use lib.ListN.{length}
 use borrow.Author.Tests.{ltb-false, not-false}
 use Rattle.refusals.specs.declared.Refusal.{Refusal}
 use Rattle.refusals.specs.declared.Refusal.TheVariants.{NoSpace, Unknown, TableFull}
-use Rattle.refusals.specs.Refusals.{first_cause, refused, ok, unless}
+use Rattle.refusals.specs.Refusals.{first_cause, unless}
 use Rattle.refusals.proofs.CauseLaws.{no-cause-head}
 use Rattle.table.specs.Tables.{Table}
 use Rattle.table.specs.Acts.{Act, act_overflows}
@@ -42,20 +42,20 @@ least-few (suc k) w h l = omega arith
 -- ---- the two tests, as steps of a checking order
 
 module _ (k : ℕ) (link : Link) (w : List ℕ) where
-  pub room-short : lacks_room k link w ≡ true → room_in k link w ≡ refused NoSpace
+  pub room-short : lacks_room k link w ≡ true → room_in k link w ≡ Err NoSpace
   unfolding room_in first_cause unless
   room-short e = rw e
 
-  pub room-long : lacks_room k link w ≡ false → room_in k link w ≡ ok w
+  pub room-long : lacks_room k link w ≡ false → room_in k link w ≡ Ok w
   unfolding room_in first_cause unless
   room-long e = rw e
 
 module _ (link : Link) (n : ℕ) where
-  pub run-unknown : lacks_run link ≡ true → run_in link n ≡ refused Unknown
+  pub run-unknown : lacks_run link ≡ true → run_in link n ≡ Err Unknown
   unfolding run_in first_cause unless
   run-unknown e = rw e
 
-  pub run-known : lacks_run link ≡ false → run_in link n ≡ ok (numbering link n)
+  pub run-known : lacks_run link ≡ false → run_in link n ≡ Ok (numbering link n)
   unfolding run_in first_cause unless
   run-known e = rw e
 
@@ -91,7 +91,7 @@ link-ready {link} {w} A = ready_by 1 link w 0 A (omega arith)
 
 -- ---- causes 8 and 9
 
-pub no-cause-room : (numbers : Numbering) (t : Table) (a : Act) → carry_cause numbers t (some a) ≡ none → act_overflows t a ≡ false
+pub no-cause-room : (numbers : Numbering) (t : Table) (a : Act) → carry_cause numbers t (Some a) ≡ None → act_overflows t a ≡ false
 unfolding carry_cause
 no-cause-room numbers t a e = no-cause-head (act_overflows t a) TableFull _ e
 
@@ -101,6 +101,6 @@ unfolding acts_of fits
 acted-carried numbers m act h f = go (carry_cause numbers (table_of m) act) act refl f
   where
     go : (cause : Option Refusal) (act : Option Act) → carry_cause numbers (table_of m) act ≡ cause → fits act ≡ true → Acted m (acts_of cause act)
-    go (some cause) act e f = acted-none m h
-    go none none e f = acted-none m h
-    go none (some a) e f = acted-one m a h f (no-cause-room numbers (table_of m) a e)
+    go (Some cause) act e f = acted-none m h
+    go None None e f = acted-none m h
+    go None (Some a) e f = acted-one m a h f (no-cause-room numbers (table_of m) a e)

@@ -1,8 +1,8 @@
 -- Laws of carrying an act out and recording it: the records of acts, one act, and what a call leaves that makes one unless it is refused.
+use Rattle.std.specs.Prelude.{Option, None, Some, Err}
 use Prim.Native.Nat.{ℕ, ◌+◌, ◌≤◌, ◌<◌}
 use mathlib.Core.Path.{◌≡◌, refl, sym, ap, ◌∙◌}
 use mathlib.Core.List.{List, [], ◌∷◌, ◌++◌, append-nil}
-use mathlib.Core.Option.{Option, none, some}
 use mathlib.Core.Bool.{Bool, true, false, cond, false≢true}
 use native.Mathlib.Omega.{arith}
 use lib.ListN.{length, length-append}
@@ -10,7 +10,7 @@ use lib.Dec.{leb}
 use borrow.Author.Tests.{le-leb, lt-leb}
 use Rattle.refusals.specs.declared.Refusal.{Refusal}
 use Rattle.refusals.specs.declared.Refusal.TheVariants.{TableFull, NumbersUsedUp}
-use Rattle.refusals.specs.Refusals.{when, first_cause, Result, refused, unless, cause_of}
+use Rattle.refusals.specs.Refusals.{when, first_cause, Result, unless, cause_of}
 use Rattle.paths.specs.Copying.{begun, Appends}
 use Rattle.table.specs.declared.Outcome.{Outcome}
 use Rattle.table.specs.declared.Outcome.TheVariants.{Done, Refused}
@@ -81,14 +81,14 @@ records-then {link} h A B = then_by link h A B
 
 pub sends_none : (act : Option Act) (run n : ℕ) (w : List ℕ) (at : ℕ) → is_none act ≡ true → SendsAt act run n w at n w at
 unfolding is_none acts_of
-sends_none none run n w at e = record { records = records-none (Linked run) n w at; few = omega arith }
-sends_none (some act) run n w at e = absurd (false≢true e)
+sends_none None run n w at e = record { records = records-none (Linked run) n w at; few = omega arith }
+sends_none (Some act) run n w at e = absurd (false≢true e)
 
 pub sends-record : (act : Option Act) (run n : ℕ) (w : List ℕ) (at : ℕ) {next : ℕ} {w' : List ℕ} {k : ℕ} → is_none act ≡ false → fits act ≡ true → next ≡ n + 1
     → Appends (record_words run next act) w at w' k → SendsAt act run n w at next w' k
 unfolding is_none fits acts_of changes_of numbered all_words record_words
-sends-record none run n w at e a f W = absurd (false≢true (sym e))
-sends-record (some act) run n w at e a f W =
+sends-record None run n w at e a f W = absurd (false≢true (sym e))
+sends-record (Some act) run n w at e a f W =
     let change : Change = record { run = run; number = n + 1; act = act } in
     let Z = rw f at W in
     record { records = record { number = f; words = rw (append-nil (change_words change)) Z }; few = omega (arith, Z.end, few_words change a) }
@@ -97,19 +97,19 @@ sends-record (some act) run n w at e a f W =
 
 plain-cause : (t : Table) (act : Option Act) → carry_cause unnumbered t act ≡ room_cause t act
 unfolding carry_cause room_cause first_cause used_up
-plain-cause t none = refl
-plain-cause t (some act) = refl
+plain-cause t None = refl
+plain-cause t (Some act) = refl
 
 left-cause : (n : ℕ) (t : Table) (act : Option Act) → n < max_number → carry_cause (after n) t act ≡ room_cause t act
 unfolding carry_cause room_cause first_cause used_up
-left-cause n t none h = refl
-left-cause n t (some act) h = let free : leb max_number n ≡ false = lt-leb max_number n h in rw free
+left-cause n t None h = refl
+left-cause n t (Some act) h = let free : leb max_number n ≡ false = lt-leb max_number n h in rw free
 
 -- no number is left
 used-outcome : (n : ℕ) (t : Table) (act : Option Act) → max_number ≤ n → outcome_of (carry_cause (after n) t act) ≡ no_number t act
 unfolding carry_cause used_up no_number outcome_of
-used-outcome n t none h = refl
-used-outcome n t (some act) h = rw (le-leb max_number n h) (by (act_overflows t act))
+used-outcome n t None h = refl
+used-outcome n t (Some act) h = rw (le-leb max_number n h) (by (act_overflows t act))
   where
     by : (over : Bool) → outcome_of (first_cause (when over TableFull ∷ when true NumbersUsedUp ∷ [])) ≡ cond over (Refused TableFull) (Refused NumbersUsedUp)
     by true = unfold first_cause in refl
@@ -117,10 +117,10 @@ used-outcome n t (some act) h = rw (le-leb max_number n h) (by (act_overflows t 
 
 used-acts : (n : ℕ) (t : Table) (act : Option Act) → max_number ≤ n → acts_of (carry_cause (after n) t act) act ≡ []
 unfolding carry_cause used_up acts_of
-used-acts n t none h = refl
-used-acts n t (some act) h = rw (le-leb max_number n h) (by (act_overflows t act))
+used-acts n t None h = refl
+used-acts n t (Some act) h = rw (le-leb max_number n h) (by (act_overflows t act))
   where
-    by : (over : Bool) → acts_of (first_cause (when over TableFull ∷ when true NumbersUsedUp ∷ [])) (some act) ≡ []
+    by : (over : Bool) → acts_of (first_cause (when over TableFull ∷ when true NumbersUsedUp ∷ [])) (Some act) ≡ []
     by true = unfold first_cause in refl
     by false = unfold first_cause in refl
 
@@ -195,16 +195,16 @@ pub does-alone : {call call' : Result Act} {l l' : Lent} {r : Sent} → call ≡
 does-alone e D = rw (← e) (record { outcome = D.outcome; sends = sends-alone D.sends })
 
 module _ {link : Link} {call : Result Act} {l : Lent} where
-  pub does-refuse : {cause : Refusal} {r : Sent} → call ≡ refused cause → r ≡ refused_sent cause → Does link call l l r
+  pub does-refuse : {cause : Refusal} {r : Sent} → call ≡ Err cause → r ≡ refused_sent cause → Does link call l l r
   unfolding outcome_of cause_of single_act
   does-refuse e f = rw f (record { outcome = rw e; sends = sends-nothing (rw e) })
 
   pub does-perform : {act : Act} {l' : Lent} {r : Sent} → call ≡ carried (numbering link l.number) (table_of l.memory) act
-      → Performs link (some act) l 0 l' r → Does link call l l' r
+      → Performs link (Some act) l 0 l' r → Does link call l l' r
   unfolding carried
   does-perform {act} {l'} {r} e P =
-      rw e (by (carry_cause (numbering link l.number) (table_of l.memory) (some act)) P.outcome (sends-recorded P.memory P.records))
+      rw e (by (carry_cause (numbering link l.number) (table_of l.memory) (Some act)) P.outcome (sends-recorded P.memory P.records))
     where
-      by : (cause : Option Refusal) → r.outcome ≡ outcome_of cause → Sends link (acts_of cause (some act)) l l' r.words → Does link (unless cause act) l l' r
-      by none f S = unfold unless cause_of single_act acts_of in record { outcome = f; sends = S }
-      by (some cause) f S = unfold unless cause_of single_act acts_of in record { outcome = f; sends = S }
+      by : (cause : Option Refusal) → r.outcome ≡ outcome_of cause → Sends link (acts_of cause (Some act)) l l' r.words → Does link (unless cause act) l l' r
+      by None f S = unfold unless cause_of single_act acts_of in record { outcome = f; sends = S }
+      by (Some cause) f S = unfold unless cause_of single_act acts_of in record { outcome = f; sends = S }

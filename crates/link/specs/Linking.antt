@@ -1,10 +1,9 @@
 -- The link in a call's checking order: the record space (2) and the run number (3) of a linked call, the numbers that its acts take, and causes 8 and 9.
 -- A plain call passes 2, 3 and 9. Scope, "A call comes in".
-use Rattle.std.specs.Prelude.{ℕ, zero, suc, ◌+◌, ◌*◌, List, [], ◌∷◌, Bool, false, not, length, leb, ltb}
-use Rattle.std.proofs.Math.Option.{Option, none, some}
+use Rattle.std.specs.Prelude.{ℕ, zero, suc, ◌+◌, ◌*◌, List, [], ◌∷◌, Bool, false, not, length, leb, ltb, Option, None, Some, Ok, Err}
 use Rattle.refusals.specs.declared.Refusal.{Refusal}
 use Rattle.refusals.specs.declared.Refusal.TheVariants.{NoSpace, Unknown, TableFull, NumbersUsedUp}
-use Rattle.refusals.specs.Refusals.{when, first_cause, Result, refused, ok, unless}
+use Rattle.refusals.specs.Refusals.{when, first_cause, Result, unless}
 use Rattle.table.specs.Tables.{Table}
 use Rattle.table.specs.Acts.{Act, act_overflows}
 use Rattle.records.specs.Numbers.{is_run, max_number, record_space}
@@ -54,14 +53,14 @@ past (after n) acts = after (n + length acts)
 
 -- 8 and 9: why an act on the table t is refused, if it is; with no act there is no cause
 unfoldable pub carry_cause : Numbering → Table → Option Act → Option Refusal
-carry_cause numbers t none = none
-carry_cause numbers t (some act) = first_cause (when (act_overflows t act) TableFull ∷ when (used_up numbers) NumbersUsedUp ∷ [])
+carry_cause numbers t None = None
+carry_cause numbers t (Some act) = first_cause (when (act_overflows t act) TableFull ∷ when (used_up numbers) NumbersUsedUp ∷ [])
 
 -- the act, unless it is refused
 unfoldable pub carried : Numbering → Table → Act → Result Act
-carried numbers t act = unless (carry_cause numbers t (some act)) act
+carried numbers t act = unless (carry_cause numbers t (Some act)) act
 
 -- the acts of a call that makes one unless it is refused
 unfoldable pub single_act : Result Act → List Act
-single_act (refused cause) = []
-single_act (ok act) = act ∷ []
+single_act (Err cause) = []
+single_act (Ok act) = act ∷ []

@@ -1,6 +1,5 @@
 -- Steps of a call that may be linked: an act that is carried out and, where the call is linked, recorded.
-use Rattle.std.specs.Prelude.{ℕ, ◌+◌, ◌≤◌, ◌≡◌, List, Bool, true, false, cond, length}
-use Rattle.std.proofs.Math.Option.{Option, none, some}
+use Rattle.std.specs.Prelude.{ℕ, ◌+◌, ◌≤◌, ◌≡◌, List, Bool, true, false, cond, length, Option, None, Some}
 use Rattle.refusals.specs.declared.Refusal.{Refusal}
 use Rattle.refusals.specs.declared.Refusal.TheVariants.{TableFull, NumbersUsedUp}
 use Rattle.paths.specs.Copying.{Appends}
@@ -20,8 +19,8 @@ use Rattle.link.specs.Linking.{lacks_room, lacks_run, numbering, carry_cause}
 use Rattle.link.specs.Sending.{changes_of, Lent}
 
 unfoldable pub is_none : Option Act → Bool
-is_none none = true
-is_none (some act) = false
+is_none None = true
+is_none (Some act) = false
 
 -- the link's tests of a call of k items are passed
 pub record Admits (k : ℕ) (link : Link) (w : List ℕ) : Type 0 where
@@ -35,8 +34,8 @@ pub record Ready (link : Link) (w : List ℕ) (at : ℕ) : Type 0 where
 
 -- what an act comes to where no number is left
 unfoldable pub no_number : Table → Option Act → Outcome
-no_number t none = outcome.Done
-no_number t (some act) = cond (act_overflows t act) (outcome.Refused TableFull) (outcome.Refused NumbersUsedUp)
+no_number t None = outcome.Done
+no_number t (Some act) = cond (act_overflows t act) (outcome.Refused TableFull) (outcome.Refused NumbersUsedUp)
 
 -- acts are recorded, if the call is linked, from `at` on; their records end at r
 pub record Records (link : Link) (acts : List Act) (n : ℕ) (w : List ℕ) (at n' : ℕ) (w' : List ℕ) (r : ℕ) : Type 0 where
@@ -45,7 +44,7 @@ pub record Records (link : Link) (acts : List Act) (n : ℕ) (w : List ℕ) (at 
 
 -- one act of a run, if there is one
 pub record SendsAt (act : Option Act) (run n : ℕ) (w : List ℕ) (at n' : ℕ) (w' : List ℕ) (r : ℕ) : Type 0 where
-  pub records : Records (Linked run) (acts_of none act) n w at n' w' r
+  pub records : Records (Linked run) (acts_of None act) n w at n' w' r
   pub few : r ≤ at + record_space
 
 abbrev pub refused_sent : Refusal → Sent

@@ -1,8 +1,8 @@
 -- What each act does to a path that is shut, wherever an insert lands; and that a G for a path opens it where query gives it Prompt.
+use Rattle.std.specs.Prelude.{Option, None, Some}
 use Prim.Native.Nat.{ℕ, zero, suc, ◌+◌, ◌-◌, ◌/◌, ◌%◌}
 use mathlib.Core.Path.{◌≡◌, refl, sym, ap, ◌∙◌}
 use mathlib.Core.List.{List, [], ◌∷◌, ◌++◌}
-use mathlib.Core.Option.{Option, none, some}
 use mathlib.Core.Bool.{Bool, true, false, ◌||◌, cond, true≢false}
 use native.Mathlib.Omega.{arith}
 use lib.ListN.{take, drop}
@@ -35,14 +35,14 @@ use Rattle.operator.proofs.OpenLaws.{IsShut, IsOpen, switches_allow, open_by, op
 -- the first match of a list with one entry e more, where it was `before`: as it was, or e, if it matches
 data With (p : List ℕ) (e : Entry) (before : Option Entry) : Option Entry → Type 0 where
   as_before : With p e before before
-  the-new : matches p e ≡ true → With p e before (some e)
+  the-new : matches p e ≡ true → With p e before (Some e)
 
 module _ (p : List ℕ) (e : Entry) where
-  with-front : (x : Entry) (b : Bool) {before after : Option Entry} → With p e before after → With p e (cond b (some x) before) (cond b (some x) after)
+  with-front : (x : Entry) (b : Bool) {before after : Option Entry} → With p e before after → With p e (cond b (Some x) before) (cond b (Some x) after)
   with-front x true w = as_before
   with-front x false w = w
 
-  with-here : (b : Bool) {before : Option Entry} → matches p e ≡ b → With p e before (cond b (some e) before)
+  with-here : (b : Bool) {before : Option Entry} → matches p e ≡ b → With p e before (cond b (Some e) before)
   with-here true m = the-new m
   with-here false m = as_before
 
@@ -69,7 +69,7 @@ module _ (p : List ℕ) (e : Entry) where
 
 dropped-front : (s : ℕ) (p : List ℕ) (b c : Bool) (x : Entry) (es ks : List Entry) → (b ≡ true → is_granted x.kind ≡ true) → matches p x ≡ c
     → (open_by s (first_match p es) ≡ false → open_by s (first_match p ks) ≡ false)
-    → open_by s (cond c (some x) (first_match p es)) ≡ false → open_by s (first_match p (kept_unless b x ks)) ≡ false
+    → open_by s (cond c (Some x) (first_match p es)) ≡ false → open_by s (first_match p (kept_unless b x ks)) ≡ false
 unfolding kept_unless first_match open_by
 dropped-front s p true true x es ks g m f h = absurd (true≢false (sym (g refl) ∙ h))
 dropped-front s p true false x es ks g m f h = f h
@@ -98,8 +98,8 @@ eight-same s false e =
 
 eight-shut : (s : ℕ) (o : Option Entry) → open_by s o ≡ false → open_by (set_bit s prompt_denied) o ≡ false
 unfolding open_by
-eight-shut s none h = eight-same s _ refl ∙ h
-eight-shut s (some e) h = h
+eight-shut s None h = eight-same s _ refl ∙ h
+eight-shut s (Some e) h = h
 
 one_less : (s : ℕ) → has s granted ≡ true → has (s - 1) granted ≡ false
 unfolding has
@@ -117,8 +117,8 @@ off-shut false false g e = e
 
 cleared-shut : (s : ℕ) (o : Option Entry) → open_by s o ≡ false → open_by (clear_bit s granted) o ≡ false
 unfolding open_by switches_allow
-cleared-shut s none h = off-shut (has (clear_bit s granted) flag_ignored) (has (clear_bit s granted) flag_denied) _ (one-cleared s _ refl)
-cleared-shut s (some e) h = h
+cleared-shut s None h = off-shut (has (clear_bit s granted) flag_ignored) (has (clear_bit s granted) flag_denied) _ (one-cleared s _ refl)
+cleared-shut s (Some e) h = h
 
 -- ---- each act
 
@@ -168,20 +168,20 @@ decided-unprompted D partial mode e = let z : ◌≡◌ {A = ℕ} 0 1 = cc in om
 decided-unprompted P partial mode e = let z : ◌≡◌ {A = ℕ} 0 1 = cc in omega arith
 decided-unprompted I partial mode e = let z : ◌≡◌ {A = ℕ} 0 1 = cc in omega arith
 
-unmatched-by : (t : Table) (mode : AllowPartial) (p : List ℕ) (o : Option Entry) (partial : Bool) → by_match t mode (path p) o partial ≡ Prompt → o ≡ none
+unmatched-by : (t : Table) (mode : AllowPartial) (p : List ℕ) (o : Option Entry) (partial : Bool) → by_match t mode (path p) o partial ≡ Prompt → o ≡ None
 unfolding by_match
-unmatched-by t mode p none partial e = refl
-unmatched-by t mode p (some x) partial e = absurd (decided-unprompted x.kind partial mode e)
+unmatched-by t mode p None partial e = refl
+unmatched-by t mode p (Some x) partial e = absurd (decided-unprompted x.kind partial mode e)
 
-prompt-unmatched : (t : Table) (mode : AllowPartial) (p : List ℕ) → query_desc t mode (path p) ≡ Prompt → first_match p t.entries ≡ none
+prompt-unmatched : (t : Table) (mode : AllowPartial) (p : List ℕ) → query_desc t mode (path p) ≡ Prompt → first_match p t.entries ≡ None
 unfolding query_desc
 prompt-unmatched t mode p e = unmatched-by t mode p (first_match p t.entries) _ e
 
-none-front : (b : Bool) (x : Entry) (o : Option Entry) (rest : Bool) → (o ≡ none → rest ≡ false) → cond b (some x) o ≡ none → b || rest ≡ false
+none-front : (b : Bool) (x : Entry) (o : Option Entry) (rest : Bool) → (o ≡ None → rest ≡ false) → cond b (Some x) o ≡ None → b || rest ≡ false
 none-front true x o rest f e = let z : ◌≡◌ {A = ℕ} 0 1 = cc in absurd (omega arith)
 none-front false x o rest f e = f e
 
-none-matches : (p : List ℕ) (es : List Entry) → first_match p es ≡ none → any (matches p) es ≡ false
+none-matches : (p : List ℕ) (es : List Entry) → first_match p es ≡ None → any (matches p) es ≡ false
 unfolding first_match any
 none-matches p [] e = refl
 none-matches p (x ∷ es) e = none-front (matches p x) x (first_match p es) (any (matches p) es) (none-matches p es) e
@@ -199,15 +199,15 @@ module _ (p : List ℕ) where
   same-matches old e k = rw k (and_left (is_prefix old.path p) _ e)
 
   -- the first match is the new one: in the list as it was nothing matches, and in the new one something does
-  with_open : (s : ℕ) (es : List Entry) {o : Option Entry} → With p grant none o → (o ≡ none → ⊥) → open_by s o ≡ true
+  with_open : (s : ℕ) (es : List Entry) {o : Option Entry} → With p grant None o → (o ≡ None → ⊥) → open_by s o ≡ true
   unfolding open_by
   with_open s es as_before f = absurd (f refl)
   with_open s es (the-new m) f = refl
 
-  more-matches : (k : ℕ) (es : List Entry) → first_match p (take k es ++ grant ∷ drop k es) ≡ none → ⊥
+  more-matches : (k : ℕ) (es : List Entry) → first_match p (take k es ++ grant ∷ drop k es) ≡ None → ⊥
   more-matches k es e = true≢false (sym (any-more (matches p) k es grant ∙ rw grant-matches) ∙ none-matches p _ e)
 
-  placed-open : (s : ℕ) (es : List Entry) (w : Place) → place es grant ≡ w → first_match p es ≡ none → open_by s (first_match p (placed_at w es grant)) ≡ true
+  placed-open : (s : ℕ) (es : List Entry) (w : Place) → place es grant ≡ w → first_match p es ≡ None → open_by s (first_match p (placed_at w es grant)) ≡ true
   unfolding placed_at
   placed-open s es Found e n = absurd (true≢false (sym (found-any (matches p) es grant e same-matches) ∙ none-matches p es n))
   placed-open s es (At k) e n = with_open s es (rw n at (first-with p grant k es)) (more-matches k es)

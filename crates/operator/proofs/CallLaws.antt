@@ -1,8 +1,8 @@
 -- What a call of a script decides and leaves: an operator who says no keeps a path shut, and a yes opens it.
+use Rattle.std.specs.Prelude.{Option, None, Some}
 use Prim.Native.Nat.{ℕ}
 use mathlib.Core.Path.{◌≡◌, refl, sym, ap, ◌∙◌}
 use mathlib.Core.List.{List}
-use mathlib.Core.Option.{Option, none, some}
 use mathlib.Core.Bool.{Bool, true, false, cond, true≢false, false≢true}
 use borrow.Author.Tests.{not-true}
 use Rattle.refusals.specs.Refusals.{Result}
@@ -73,10 +73,10 @@ use Rattle.operator.proofs.ActLaws.{shut-insert, shut-revoke, shut-revoke-all, s
 -- ---- what check and request decide: whether they ask, and their act
 
 data Comes (t : Table) (q : Query) (response : PromptResponse) : Bool → Option Act → Type 0 where
-  silent : Comes t q response false none
-  asking : (mode : AllowPartial) → query_desc t mode q ≡ Prompt → Comes t q response true (some (answer_act t q response))
+  silent : Comes t q response false None
+  asking : (mode : AllowPartial) → query_desc t mode q ≡ Prompt → Comes t q response true (Some (answer_act t q response))
   -- a request for what is Granted inserts it without asking
-  again : query_desc t TreatAsPartialGranted q ≡ Granted → Comes t q response false (some (grant_act t q))
+  again : query_desc t TreatAsPartialGranted q ≡ Granted → Comes t q response false (Some (grant_act t q))
 
 module _ (t : Table) (q : Query) (response : PromptResponse) where
   abbrev Decided : Decision → Type 0
@@ -168,7 +168,7 @@ module _ (t : Table) (p : List ℕ) (shut : IsShut t p) where
   revoked-shut (path q) = shut-revoke t p shut q
 
   comes-shut : {q : Query} {response : PromptResponse} {asked : Bool} {act : Option Act} → Comes t q response asked act
-      → (asked ≡ true → says_no p q response ≡ true) → IsShut (apply_acts t (acts_of none act)) p
+      → (asked ≡ true → says_no p q response ≡ true) → IsShut (apply_acts t (acts_of None act)) p
   unfolding acts_of apply_acts
   comes-shut silent f = shut
   comes-shut {q} {response} (asking mode e) f = answer-shut q response (f refl)
@@ -177,7 +177,7 @@ module _ (t : Table) (p : List ℕ) (shut : IsShut t p) where
 -- ---- a yes
 
 comes-open : {t : Table} {p : List ℕ} {asked : Bool} {act : Option Act} → Comes t (path p) Allow asked act → asked ≡ true
-    → IsOpen (apply_acts t (acts_of none act)) p
+    → IsOpen (apply_acts t (acts_of None act)) p
 unfolding acts_of apply_acts answer_act grant_act
 comes-open silent a = absurd (false≢true a)
 comes-open {t} {p} (asking mode e) a = open-grant p t mode e
@@ -203,7 +203,7 @@ record DecidedBy (t : Table) (q : Query) (response : ℕ) (decision : Decision) 
 
 -- a revoke
 IsRevoke : Query → Decision → Type 0
-IsRevoke q decision = decision.act ≡ some (revoke_act q)
+IsRevoke q decision = decision.act ≡ Some (revoke_act q)
 
 -- what a call is about
 abbrev query_about : About → Query
@@ -233,20 +233,20 @@ module _ (link : Link) (l : Lent) (a : About) (h : holds l.memory ≡ true) wher
 -- ---- and what they leave, by their acts
 
 module _ (t : Table) (p : List ℕ) where
-  acts-shut : {c : Result Decision} → IsShut t p → Hands (λ decision. IsShut (apply_acts t (acts_of none decision.act)) p) c
+  acts-shut : {c : Result Decision} → IsShut t p → Hands (λ decision. IsShut (apply_acts t (acts_of None decision.act)) p) c
       → IsShut (apply_acts t (decided_acts c)) p
   unfolding decided_acts apply_acts
   acts-shut shut stops = shut
   acts-shut shut (hands x) = x
 
   answers-shut : {q : Query} {response : ℕ} {c : Result Decision} → IsShut t p → Answered (says_no p) (asked_in c) q response
-      → Hands (DecidedBy t q response) c → Hands (λ decision. IsShut (apply_acts t (acts_of none decision.act)) p) c
+      → Hands (DecidedBy t q response) c → Hands (λ decision. IsShut (apply_acts t (acts_of None decision.act)) p) c
   unfolding asked_in
   answers-shut shut f stops = stops
   answers-shut shut f (hands A) = hands (comes-shut t p shut A.comes (λ e. f e A.answer A.known))
 
   revoked-acts : (q : Query) {c : Result Decision} → IsShut t p → Hands (IsRevoke q) c
-      → Hands (λ decision. IsShut (apply_acts t (acts_of none decision.act)) p) c
+      → Hands (λ decision. IsShut (apply_acts t (acts_of None decision.act)) p) c
   unfolding IsRevoke acts_of apply_acts
   revoked-acts q shut stops = stops
   revoked-acts q shut (hands {x = decision} e) = hands {x = decision} (rw e (revoked-shut t p shut q))

@@ -1,10 +1,10 @@
 -- Each premise is needed: the smallest calls that open `/a` without it, on a table with switch 16 alone or on a fresh one.
+use Rattle.std.specs.Prelude.{Some, Ok}
 use Prim.Native.Nat.{ℕ}
 use mathlib.Core.Path.{◌≡◌, refl, ◌∙◌}
 use mathlib.Core.List.{List, [], ◌∷◌}
-use mathlib.Core.Option.{some}
 use mathlib.Core.Bool.{true}
-use Rattle.refusals.specs.Refusals.{first_cause, Result, ok, and_then, unless, cause_of}
+use Rattle.refusals.specs.Refusals.{first_cause, Result, and_then, unless, cause_of}
 use Rattle.paths.specs.declared.Descriptor.TheVariants.{NoPath, Path}
 use Rattle.paths.specs.Components.{same, grown, parted, pieces, without_empty, components, slashed, spell}
 use Rattle.paths.specs.Resolving.{is_absolute, join, entered, enter_all, normalize, resolve, is_resolved, is_bad_directory, path_conditions}
@@ -75,14 +75,14 @@ needed O = (O, opens-unkept O)
 
 -- a yes, with the act that it makes
 abbrev yes : Act → Decision
-yes act = record { state = Granted; asked = true; writes = true; act = some act }
+yes act = record { state = Granted; asked = true; writes = true; act = Some act }
 
 -- a plain request that asks, and is answered the yes that the number names
 request-opens : (may : List ℕ → Operator) (a : About) (response : ℕ) (answer : PromptResponse) (act : Act)
     → is_table prompting ≡ true
     → and_then (known_response (response_of response)) (λ known. settled Request (numbering Plain 0) prompting a.descriptor a.given a.cwd known)
-    ≡ ok (yes act)
-    → decided_acts (ok (yes act)) ≡ act ∷ []
+    ≡ Ok (yes act)
+    → decided_acts (Ok (yes act)) ≡ act ∷ []
     → response_of response ≡ Response answer
     → may (bytes "/a") (query_of a.descriptor (resolve a.given a.cwd)) answer ≡ true
     → IsShut prompting (bytes "/a")
@@ -101,7 +101,7 @@ request-opens may a response answer act v comes acts known allows shut fits open
 abbrev done : Sent
 done = record { outcome = Done; words = 0 }
 
-does-on : {call : Result Act} {m : List ℕ} {act : Act} → call ≡ ok act → Does Plain call (alone m) (alone (do_acts m (act ∷ []))) done
+does-on : {call : Result Act} {m : List ℕ} {act : Act} → call ≡ Ok act → Does Plain call (alone m) (alone (do_acts m (act ∷ []))) done
 unfolding cause_of outcome_of single_act changes_of all_words begun
 does-on e = rw e (record { outcome = refl; sends = record { memory = refl; number = refl; words = refl; count = refl } })
 

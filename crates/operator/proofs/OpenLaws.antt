@@ -1,9 +1,9 @@
 -- When query in mode partial gives a path Granted or GrantedPartial, over any list of entries: by the first match, or by the switches where there is none.
 -- The key law, `granted-below`: what is Granted in mode partial is so all the way down.
+use Rattle.std.specs.Prelude.{Option, None, Some}
 use Prim.Native.Nat.{ℕ}
 use mathlib.Core.Path.{◌≡◌, refl, sym, ap, ◌∙◌}
 use mathlib.Core.List.{List, [], ◌∷◌}
-use mathlib.Core.Option.{Option, none, some}
 use mathlib.Core.Bool.{Bool, true, false, ◌&&◌, cond, true≢false, false≢true}
 use Rattle.paths.specs.Components.{same, components}
 use Rattle.paths.specs.Relations.{is_prefix}
@@ -50,8 +50,8 @@ unfoldable pub switches_allow : ℕ → Bool
 switches_allow s = cond (has s flag_ignored) false (cond (has s flag_denied) false (has s granted))
 
 unfoldable pub open_by : ℕ → Option Entry → Bool
-open_by s none = switches_allow s
-open_by s (some e) = is_granted e.kind
+open_by s None = switches_allow s
+open_by s (Some e) = is_granted e.kind
 
 -- the state by whether the path is open and whether it is partial
 data StateBy : Bool → Bool → PermissionState → Type 0 where
@@ -82,8 +82,8 @@ switches-by false false false partial = shut refl
 match_by : (t : Table) (p : List ℕ) (o : Option Entry) (partial : Bool)
     → StateBy (open_by t.switches o) partial (by_match t TreatAsPartialGranted (path p) o partial)
 unfolding open_by switches_allow by_match without_match is_denied_mode is_denied
-match_by t p none partial = switches-by (has t.switches flag_ignored) (has t.switches flag_denied) (has t.switches granted) partial
-match_by t p (some e) partial = kind-by e.kind partial
+match_by t p None partial = switches-by (has t.switches flag_ignored) (has t.switches flag_denied) (has t.switches granted) partial
+match_by t p (Some e) partial = kind-by e.kind partial
 
 state-by : (t : Table) (p : List ℕ) → StateBy (open_by t.switches (first_match p t.entries)) (any (is_flag_below p) t.entries) (state_of t p)
 unfolding query_desc is_partial
@@ -152,7 +152,7 @@ module _ (q p : List ℕ) (h : is_prefix q p ≡ true) where
 
   below-front : (s : ℕ) (a b : Bool) (e : Entry) (x y : Option Entry) → (is_granted e.kind ≡ true → a ≡ true → b ≡ true)
       → (a ≡ false → b ≡ true → is_granted e.kind ≡ true) → (open_by s x ≡ true → open_by s y ≡ true)
-      → open_by s (cond a (some e) x) ≡ true → open_by s (cond b (some e) y) ≡ true
+      → open_by s (cond a (Some e) x) ≡ true → open_by s (cond b (Some e) y) ≡ true
   unfolding open_by
   below-front s true true e x y f g r o = o
   below-front s true false e x y f g r o = absurd (false≢true (f o refl))

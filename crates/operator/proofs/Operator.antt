@@ -1,9 +1,10 @@
 -- The operator against the script, proved: from single calls to runs of them.
+use Rattle.std.specs.Prelude.{Ok}
 use Prim.Native.Nat.{ℕ}
 use mathlib.Core.Path.{◌≡◌, sym, subst}
 use mathlib.Core.List.{List}
 use mathlib.Core.Bool.{true}
-use Rattle.refusals.specs.Refusals.{ok, and_then}
+use Rattle.refusals.specs.Refusals.{and_then}
 use Rattle.paths.specs.declared.Descriptor.TheVariants.{Path}
 use Rattle.paths.specs.Giving.{resolved, given}
 use Rattle.table.specs.Memory.{table_of, holds}
@@ -43,7 +44,7 @@ script-shut (then_call R C) S = step-shut C (script-shut R S)
 allowed-open : {p m m' : List ℕ} → Allowed promised p m m' → Open p m'
 allowed-open (allowed call link n w s given cwd response n' w' s' r A Y) = ask-open A Y
 
-query-seen : (p m given cwd : List ℕ) → holds m ≡ true → resolved given cwd ≡ ok p
+query-seen : (p m given cwd : List ℕ) → holds m ≡ true → resolved given cwd ≡ Ok p
     → query_answer m (mode_number TreatAsPartialGranted) Path given cwd ≡ State (state_of (table_of m) p)
 unfolding query_answer query_call answer_of and_then mode_of known_mode given
 query-seen p m given cwd h e = rw (a-table m h, e)

@@ -1,5 +1,6 @@
 -- Single steps on a known table: what a call comes to there and leaves, and one that opens a path which was shut. The witness, the needed premises and the
 -- wrong versions rest on these; the claim does not.
+use Rattle.std.specs.Prelude.{Ok}
 use Prim.Native.Nat.{ℕ, ◌+◌}
 use mathlib.Core.Path.{◌≡◌, refl, sym, ap, ◌∙◌}
 use mathlib.Core.List.{List, []}
@@ -7,7 +8,7 @@ use mathlib.Core.Bool.{Bool, true, true≢false}
 use native.Mathlib.Omega.{arith}
 use lib.ListN.{length}
 use borrow.Author.Tests.{le-ltb}
-use Rattle.refusals.specs.Refusals.{first_cause, Result, ok, and_then, unless}
+use Rattle.refusals.specs.Refusals.{first_cause, Result, and_then, unless}
 use Rattle.paths.specs.Copying.{begun}
 use Rattle.paths.specs.Giving.{Query, given}
 use Rattle.table.specs.Tables.{Table, is_table}
@@ -43,7 +44,7 @@ prompting = record { entries = []; switches = 16; marks = 0 }
 abbrev pub text_room : List ℕ
 text_room = space_of text_bytes
 
-pub text-room : text_space text_room ≡ ok text_room
+pub text-room : text_space text_room ≡ Ok text_room
 unfolding text_space first_cause unless
 text-room = rw (le-ltb (length text_room) text_bytes (omega (arith, length-space text_bytes)))
 
@@ -60,7 +61,7 @@ module _ {m : List ℕ} {t : Table} (S : Stands m t) (a : About) where
     revoke-on = rw (table-in S, room-long 1 link w A.roomy, run-known link n A.run)
 
   pub query-on : (mode : ℕ) → query_answer m mode a.descriptor a.given a.cwd
-      ≡ answer_of (and_then (known_mode (mode_of mode)) (λ known. and_then (given a.descriptor a.given a.cwd) (λ q. ok (query_desc t known q))))
+      ≡ answer_of (and_then (known_mode (mode_of mode)) (λ known. and_then (given a.descriptor a.given a.cwd) (λ q. Ok (query_desc t known q))))
   unfolding query_answer query_call and_then
   query-on mode = rw (table-in S)
 

@@ -1,14 +1,14 @@
 -- The script of `specs/Witness.antt`: what each call decides on the table that it meets computes.
+use Rattle.std.specs.Prelude.{Some, Ok, Err}
 use Prim.Native.Nat.{ℕ, ◌*◌}
 use mathlib.Core.Path.{◌≡◌, refl, sym, ap, ◌∙◌}
 use mathlib.Core.List.{List, [], ◌∷◌, ◌++◌}
-use mathlib.Core.Option.{some}
 use mathlib.Core.Bool.{true, false, false≢true}
 use native.Mathlib.Omega.{arith}
 use lib.ListN.{length, take}
 use borrow.Author.Tests.{le-ltb}
 use Rattle.refusals.specs.declared.Refusal.TheVariants.{EmptyPath}
-use Rattle.refusals.specs.Refusals.{first_cause, Result, refused, ok, and_then, unless}
+use Rattle.refusals.specs.Refusals.{first_cause, Result, and_then, unless}
 use Rattle.paths.specs.declared.Descriptor.{Descriptor}
 use Rattle.paths.specs.declared.Descriptor.TheVariants.{NoPath, Path}
 use Rattle.paths.specs.Components.{same, grown, parted, pieces, without_empty, components, slashed, spell}
@@ -159,7 +159,7 @@ module _ {m : List ℕ} {t : Table} (S : Stands m t) (d : Descriptor) (p : List 
         }
 
   query-steps : (mode : ℕ) (r : Answer)
-      → answer_of (and_then (known_mode (mode_of mode)) (λ known. and_then (given d p []) (λ q. ok (query_desc t known q)))) ≡ r → Steps m [] (querying mode d p r)
+      → answer_of (and_then (known_mode (mode_of mode)) (λ known. and_then (given d p []) (λ q. Ok (query_desc t known q)))) ≡ r → Steps m [] (querying mode d p r)
   unfolding line_of do_acts
   query-steps mode r e = record { step = operator.queries mode (about d p []) r (sym (query-on S (about d p []) mode ∙ e)) refl; is = refl }
 
@@ -198,7 +198,7 @@ not-empty = record {
   yes = _;
   allowed =
       operator.allowed Request Plain 0 [] text_room (bytes "/e") [] 1 _ _ _ _
-      (asks-by {c = ok granted} (ask-on memory (about Path (bytes "/e") []) plain 0 Request 1))
+      (asks-by {c = Ok granted} (ask-on memory (about Path (bytes "/e") []) plain 0 Request 1))
       (record { for = refl; told = refl; answer = refl });
 }
   where
@@ -209,10 +209,10 @@ not-empty = record {
     plain = plain-admits 1 []
 
     denied : List ℕ → Decision
-    denied p = record { state = Denied; asked = true; writes = true; act = some (insert (record { kind = P; path = p })) }
+    denied p = record { state = Denied; asked = true; writes = true; act = Some (insert (record { kind = P; path = p })) }
 
     granted : Decision
-    granted = record { state = Granted; asked = true; writes = true; act = some (insert (entry G "/e")) }
+    granted = record { state = Granted; asked = true; writes = true; act = Some (insert (entry G "/e")) }
 
     begin : At 0 0
     begin = record { after = table_memory five; script = start; says = refl; stands = memory }
@@ -220,39 +220,39 @@ not-empty = record {
     request-above : At 0 0 → At 1 1
     request-above R =
         run-then R
-        (ask-steps R.stands Path (bytes "/a") plain (ok (denied (bytes "/a"))) Request 0 refl
+        (ask-steps R.stands Path (bytes "/a") plain (Ok (denied (bytes "/a"))) Request 0 refl
         (answered-by (says_no target) (path (bytes "/a")) 0 Deny refl refl))
         refl
 
     check-itself : At 1 1 → At 2 2
     check-itself R =
         run-then R
-        (ask-steps R.stands Path target plain (ok (denied target)) Check 0 refl
+        (ask-steps R.stands Path target plain (Ok (denied target)) Check 0 refl
         (answered-by (says_no target) (path target) 0 Deny refl refl))
         refl
 
     request-beside : At 2 2 → At 3 3
     request-beside R =
         run-then R
-        (ask-steps R.stands Path (bytes "/e") plain (ok granted) Request 1 refl
+        (ask-steps R.stands Path (bytes "/e") plain (Ok granted) Request 1 refl
         (answered-by (says_no target) (path (bytes "/e")) 1 Allow refl refl))
         refl
 
     request-refused : At 3 3 → At 3 4
     request-refused R =
-        run-then R (ask-steps R.stands Path [] plain (refused EmptyPath) Request 2 refl (λ e. absurd (false≢true e))) refl
+        run-then R (ask-steps R.stands Path [] plain (Err EmptyPath) Request 2 refl (λ e. absurd (false≢true e))) refl
 
     request-unasked : At 3 4 → At 3 5
     request-unasked R =
         run-then R
-        (ask-steps R.stands NoPath [] linked-admits (ok (unasked Denied false)) Request 2 refl (λ e. absurd (false≢true e)))
+        (ask-steps R.stands NoPath [] linked-admits (Ok (unasked Denied false)) Request 2 refl (λ e. absurd (false≢true e)))
         refl
 
     check-below : At 3 5 → At 4 6
     check-below R =
         run-then R
         (ask-steps R.stands Path (bytes "/a/b/c") linked-admits
-        (ok (record { state = Granted; asked = true; writes = true; act = some (insert (entry G "/a/b/c")) })) Check 1 refl
+        (Ok (record { state = Granted; asked = true; writes = true; act = Some (insert (entry G "/a/b/c")) })) Check 1 refl
         (answered-by (says_no target) (path (bytes "/a/b/c")) 1 Allow refl refl))
         refl
 
@@ -260,13 +260,13 @@ not-empty = record {
     revoke-beside R =
         run-then R
         (revoke-steps R.stands Path (bytes "/e") linked-admits
-        (ok (record { state = Prompt; asked = false; writes = false; act = some (revoke (bytes "/e")) })) refl)
+        (Ok (record { state = Prompt; asked = false; writes = false; act = Some (revoke (bytes "/e")) })) refl)
         refl
 
     revoke-every : At 5 7 → At 6 8
     revoke-every R =
         run-then R
-        (revoke-steps R.stands NoPath [] plain (ok (record { state = Denied; asked = false; writes = false; act = some revoke_all })) refl)
+        (revoke-steps R.stands NoPath [] plain (Ok (record { state = Denied; asked = false; writes = false; act = Some revoke_all })) refl)
         refl
 
     last-query : At 6 8 → At 6 9

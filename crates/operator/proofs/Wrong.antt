@@ -1,11 +1,11 @@
 -- Each wrong version of `specs/Wrong.antt` breaks the claim with one call on a small table, and the right one in the same form meets it.
+use Rattle.std.specs.Prelude.{Option, None, Some, Ok, Err}
 use Prim.Native.Nat.{ℕ}
 use mathlib.Core.Path.{◌≡◌, refl, ap, ◌∙◌}
 use mathlib.Core.List.{List, [], ◌∷◌}
-use mathlib.Core.Option.{Option, none, some}
 use mathlib.Core.Bool.{true, false, false≢true}
 use Rattle.refusals.specs.declared.Refusal.{Refusal}
-use Rattle.refusals.specs.Refusals.{first_cause, Result, refused, ok, and_then, unless}
+use Rattle.refusals.specs.Refusals.{first_cause, Result, and_then, unless}
 use Rattle.refusals.proofs.CauseLaws.{unless-ok}
 use Rattle.paths.specs.declared.Descriptor.TheVariants.{Path}
 use Rattle.paths.specs.Components.{same, grown, parted, pieces, without_empty, components, slashed, spell}
@@ -146,26 +146,26 @@ unfolding ask_call settled
 asks-same A = record { answers = A.answers; sends = A.sends }
 
 -- what a checking order comes to, told as f or as g: the same, where a refusal is told the same, and what it ends in
-module _ {A B C : Type 0} (f : Result A → C) (g : Result B → C) (stopped : (cause : Refusal) → f (refused cause) ≡ g (refused cause)) where
-  then_same : {X : Type 0} (x : Result X) (h : X → Result A) (k : X → Result B) → ((y : X) → x ≡ ok y → f (h y) ≡ g (k y)) → f (and_then x h) ≡ g (and_then x k)
+module _ {A B C : Type 0} (f : Result A → C) (g : Result B → C) (stopped : (cause : Refusal) → f (Err cause) ≡ g (Err cause)) where
+  then_same : {X : Type 0} (x : Result X) (h : X → Result A) (k : X → Result B) → ((y : X) → x ≡ Ok y → f (h y) ≡ g (k y)) → f (and_then x h) ≡ g (and_then x k)
   unfolding and_then
-  then_same (refused cause) h k e = stopped cause
-  then_same (ok y) h k e = e y refl
+  then_same (Err cause) h k e = stopped cause
+  then_same (Ok y) h k e = e y refl
 
-  unless-same : (cause : Option Refusal) (x : A) (y : B) → f (ok x) ≡ g (ok y) → f (unless cause x) ≡ g (unless cause y)
+  unless-same : (cause : Option Refusal) (x : A) (y : B) → f (Ok x) ≡ g (Ok y) → f (unless cause x) ≡ g (unless cause y)
   unfolding unless
-  unless-same none x y e = e
-  unless-same (some cause) x y e = stopped cause
+  unless-same None x y e = e
+  unless-same (Some cause) x y e = stopped cause
 
   revoke-told : (link : Link) (l : Lent) (a : About) (by : Table → Query → A) (to : Table → Query → B)
-      → ((t : Table) (q : Query) → table_in l.memory ≡ ok t → f (ok (by t q)) ≡ g (ok (to t q)))
+      → ((t : Table) (q : Query) → table_in l.memory ≡ Ok t → f (Ok (by t q)) ≡ g (Ok (to t q)))
       → f (revoke_call_by by link l a) ≡ g (revoke_call_by to link l a)
   revoke-told link l a by to e =
       then_same (table_in l.memory) _ _ (λ t held.
       then_same (room_in 1 link l.words) _ _ (λ room _.
       then_same (run_in link l.number) _ _ (λ numbers _.
       then_same (given a.descriptor a.given a.cwd) _ _ (λ q _.
-      unless-same (carry_cause numbers t (some (revoke_act q))) (by t q) (to t q) (e t q held)))))
+      unless-same (carry_cause numbers t (Some (revoke_act q))) (by t q) (to t q) (e t q held)))))
 
 -- and the one of a revoke, made with `revoke_desc`, is `revoke_call`
 module _ {link : Link} {l : Lent} {a : About} {l' : Lent} {r : Revoked} (R : RevokesBy revokes link l a l' r) where
@@ -214,26 +214,26 @@ module _ {P : Promises} (F : Implies P) where
 
 module _ (deciding : Deciding) (t : Table) (v : is_table t ≡ true) (p : List ℕ) (response : ℕ) (decision : Decision)
     (comes : and_then (known_response (response_of response)) (λ known.
-    and_then (given Path p []) (λ q. carried_out (numbering Plain 0) t (deciding Request t q known))) ≡ ok decision) where
+    and_then (given Path p []) (λ q. carried_out (numbering Plain 0) t (deciding Request t q known))) ≡ Ok decision) where
   abbrev m : List ℕ
   m = table_memory t
 
   abbrev a : About
   a = about Path p []
 
-  asked : AsksBy deciding Request Plain (alone m) text_room a response (leaves Plain (decided_acts (ok decision)) (alone m))
-      (begun (text_due (ok decision) a) text_room) (result_of Plain 0 (ok decision) a)
+  asked : AsksBy deciding Request Plain (alone m) text_room a response (leaves Plain (decided_acts (Ok decision)) (alone m))
+      (begun (text_due (Ok decision) a) text_room) (result_of Plain 0 (Ok decision) a)
   unfolding and_then
   asked =
       let A = plain-admits 1 [] in
-      let e : ask_call_by deciding Request Plain (alone m) text_room a response ≡ ok decision =
+      let e : ask_call_by deciding Request Plain (alone m) text_room a response ≡ Ok decision =
       rw (table-in (memory-stands t v), text-room, room-long 1 Plain [] A.roomy, run-known Plain 0 A.run) comes
       in
       record { answers = answers_by Plain 0 text_room e; sends = sends-by (alone m) (ap decided_acts e) }
 
   -- a request for p opens x, though the operator says no
-  request-breaks : (x : List ℕ) (act : Act) → decided_acts (ok decision) ≡ act ∷ []
-      → Answered (says_no x) (asked_in (ok decision)) (query_of Path (resolve p [])) response
+  request-breaks : (x : List ℕ) (act : Act) → decided_acts (Ok decision) ≡ act ∷ []
+      → Answered (says_no x) (asked_in (Ok decision)) (query_of Path (resolve p [])) response
       → IsShut t x → all_fit t (act ∷ []) ≡ true → IsOpen (apply_acts t (act ∷ [])) x → Claim (asking deciding) → ⊥
   request-breaks x act acts may shut fits opened C =
       let step : Step (asking deciding) (says_no x) m (do_acts m (act ∷ [])) =
@@ -271,23 +271,23 @@ unfolding bytes entry first_cause and_then unless
 ruled_out = record {
   -- a request for `/a`, denied
   deny-grants =
-      request-breaks deny_grants prompting refl (bytes "/a") 0 (record { state = Denied; asked = true; writes = true; act = some (insert (entry G "/a")) }) refl
+      request-breaks deny_grants prompting refl (bytes "/a") 0 (record { state = Denied; asked = true; writes = true; act = Some (insert (entry G "/a")) }) refl
       (bytes "/a") (insert (entry G "/a")) refl (answered-by (says_no (bytes "/a")) (path (bytes "/a")) 0 Deny refl refl) refl refl refl;
   -- a request for `/a`, which is GrantedPartial, opens `/a/b`
   inserts-partial =
       request-breaks inserts_partial unsorted refl (bytes "/a") 0
-      (record { state = GrantedPartial; asked = false; writes = false; act = some (insert (entry G "/a")) }) refl
+      (record { state = GrantedPartial; asked = false; writes = false; act = Some (insert (entry G "/a")) }) refl
       (bytes "/a/b") (insert (entry G "/a")) refl (answered-by (says_no (bytes "/a/b")) (path (bytes "/a")) 0 Deny refl refl) refl refl refl;
   -- a request for `/a` that is handed Allow
   answers-unasked =
-      request-breaks answers_unasked fresh refl (bytes "/a") 1 (record { state = Granted; asked = false; writes = false; act = some (insert (entry G "/a")) }) refl
+      request-breaks answers_unasked fresh refl (bytes "/a") 1 (record { state = Granted; asked = false; writes = false; act = Some (insert (entry G "/a")) }) refl
       (bytes "/a") (insert (entry G "/a")) refl (λ e. absurd (false≢true e)) refl refl refl;
   -- a request for `/a`, allowed
   allow-nothing = λ C.
       never_both (shut-on (bytes "/a") (memory-stands prompting refl) refl)
       (C.yes (bytes "/a") (table_memory prompting) (table_memory prompting)
       (operator.allowed Request Plain 0 [] text_room (bytes "/a") [] 1 _ _ _ _
-      (asked allow_nothing prompting refl (bytes "/a") 1 (record { state = Granted; asked = true; writes = true; act = none }) refl)
+      (asked allow_nothing prompting refl (bytes "/a") 1 (record { state = Granted; asked = true; writes = true; act = None }) refl)
       (record { for = refl; told = refl; answer = refl })));
   -- a revoke of `/a`
   drops-denied = λ C.

@@ -2,8 +2,7 @@
 --
 -- A script makes any calls, from any memory that holds a table: its list in any order, with or without duplicates, whatever switches are set. Each step is a
 -- call's own promise, the one that its `ensures` cites, refused or not. `OperatorAgainstScript` says what an operator keeps shut who says no, and that a yes opens.
-use Rattle.std.specs.Prelude.{ℕ, ◌≡◌, List, Bool, true, false, not}
-use Rattle.refusals.specs.Refusals.{ok}
+use Rattle.std.specs.Prelude.{ℕ, ◌≡◌, List, Bool, true, false, not, Ok}
 use Rattle.paths.specs.declared.Descriptor.TheVariants.{Path}
 use Rattle.paths.specs.Resolving.{resolve}
 use Rattle.paths.specs.Relations.{is_prefix}
@@ -138,7 +137,7 @@ pub record Claim (P : Promises) : Type 0 where
   -- in turn, a yes opens p
   pub yes : (p m m' : List ℕ) → Allowed P p m m' → Open p m'
   -- `state_of` is what the call query answers in mode partial, for every path as given that resolves to p
-  pub seen : (p m given cwd : List ℕ) → holds m ≡ true → resolved given cwd ≡ ok p
+  pub seen : (p m given cwd : List ℕ) → holds m ≡ true → resolved given cwd ≡ Ok p
       → query_answer m (mode_number TreatAsPartialGranted) Path given cwd ≡ State (state_of (table_of m) p)
 
 abbrev pub OperatorAgainstScript : Type 0

@@ -1,6 +1,5 @@
 -- Wrong versions of check, request and revoke, each of which the claim rules out by itself. Scope, "The operator against the script".
-use Rattle.std.specs.Prelude.{ℕ, ◌≡◌, List, Bool, true, false, ◌&&◌, cond}
-use Rattle.std.proofs.Math.Option.{none, some}
+use Rattle.std.specs.Prelude.{ℕ, ◌≡◌, List, Bool, true, false, ◌&&◌, cond, None, Some}
 use Rattle.refusals.specs.Refusals.{Result, and_then, unless}
 use Rattle.paths.specs.Relations.{is_prefix}
 use Rattle.paths.specs.Giving.{Query, no_path, path, given}
@@ -63,14 +62,14 @@ pub record AsksBy (deciding : Deciding) (call : Call) (link : Link) (l : Lent) (
 unfoldable pub deny_grants : Deciding
 deny_grants call t q Deny =
     let right = decide call t q Deny in
-    record { state = right.state; asked = right.asked; writes = right.writes; act = cond right.asked (some (grant_act t q)) right.act }
+    record { state = right.state; asked = right.asked; writes = right.writes; act = cond right.asked (Some (grant_act t q)) right.act }
 deny_grants call t q Allow = decide call t q Allow
 deny_grants call t q AllowAll = decide call t q AllowAll
 
 -- a request inserts G though the state is GrantedPartial
 unfoldable pub partial_grants : Table → Query → PromptResponse → PermissionState → Decision
 partial_grants t q response Granted = request_by t q response Granted
-partial_grants t q response GrantedPartial = record { state = GrantedPartial; asked = false; writes = false; act = some (grant_act t q) }
+partial_grants t q response GrantedPartial = record { state = GrantedPartial; asked = false; writes = false; act = Some (grant_act t q) }
 partial_grants t q response Prompt = request_by t q response Prompt
 partial_grants t q response Denied = request_by t q response Denied
 partial_grants t q response DeniedPartial = request_by t q response DeniedPartial
@@ -88,7 +87,7 @@ takes_unasked t q response Prompt = record {
   state = state_by response;
   asked = has t.switches prompt;
   writes = has t.switches prompt;
-  act = some (answer_act t q response);
+  act = Some (answer_act t q response);
 }
 takes_unasked t q response Denied = request_by t q response Denied
 takes_unasked t q response DeniedPartial = request_by t q response DeniedPartial
@@ -103,7 +102,7 @@ unfoldable pub allow_nothing : Deciding
 allow_nothing call t q Deny = decide call t q Deny
 allow_nothing call t q Allow =
     let right = decide call t q Allow in
-    record { state = right.state; asked = right.asked; writes = right.writes; act = cond right.asked none right.act }
+    record { state = right.state; asked = right.asked; writes = right.writes; act = cond right.asked None right.act }
 allow_nothing call t q AllowAll = decide call t q AllowAll
 
 -- ---- revoke
@@ -119,7 +118,7 @@ revoke_call_by by link l a =
     and_then (room_in 1 link l.words) (λ room.
     and_then (run_in link l.number) (λ numbers.
     and_then (given a.descriptor a.given a.cwd) (λ q.
-    unless (carry_cause numbers t (some (revoke_act q))) (by t q)))))
+    unless (carry_cause numbers t (Some (revoke_act q))) (by t q)))))
 
 -- `Revokes` is the one with `revokes`; what is recorded is the act of a revoke
 pub record RevokesBy (revoking : Revoking) (link : Link) (l : Lent) (a : About) (l' : Lent) (r : Revoked) : Type 0 where

@@ -1,8 +1,8 @@
 -- Laws of the answer: an absolute path, a bad working directory, the resolved path handed over, and the first cause.
+use Rattle.std.specs.Prelude.{Option, None, Some}
 use Prim.Native.Nat.{ℕ, ◌+◌, ◌≤◌, ◌<◌}
 use mathlib.Core.Path.{◌≡◌, refl, sym, ap, ◌∙◌, subst}
 use mathlib.Core.List.{List, [], ◌∷◌}
-use mathlib.Core.Option.{Option, none, some}
 use mathlib.Core.Bool.{Bool, true, false, ◌||◌, not, false≢true}
 use native.Mathlib.Omega.{arith}
 use native.Mathlib.Nat.{zero-add}
@@ -155,25 +155,25 @@ module _ (p cwd space : List ℕ) where
   unfolding resolution resolved_into path_conditions first_cause answered space_after
   resolves-empty h = record { answer = rw (same-empty p h); bytes = rw (same-empty p h) }
 
-  module _ (some : length p ≡ 0 → ⊥) where
+  module _ (Some : length p ≡ 0 → ⊥) where
     pub resolves-long : max_path < length p → Resolves p cwd space (Refused PathTooLong) space
     unfolding resolution resolved_into path_conditions first_cause answered space_after
     resolves-long h = record {
-      answer = rw (other_length p [] some, lt-ltb max_path (length p) h);
-      bytes = rw (other_length p [] some, lt-ltb max_path (length p) h);
+      answer = rw (other_length p [] Some, lt-ltb max_path (length p) h);
+      bytes = rw (other_length p [] Some, lt-ltb max_path (length p) h);
     }
 
     module _ (short : length p ≤ max_path) where
       pub resolves-bad : is_bad_directory p cwd ≡ true → Resolves p cwd space (Refused BadDirectory) space
       unfolding resolution resolved_into path_conditions first_cause answered space_after
       resolves-bad e = record {
-        answer = rw (other_length p [] some, le-ltb max_path (length p) short, e);
-        bytes = rw (other_length p [] some, le-ltb max_path (length p) short, e);
+        answer = rw (other_length p [] Some, le-ltb max_path (length p) short, e);
+        bytes = rw (other_length p [] Some, le-ltb max_path (length p) short, e);
       }
 
       last-cause : is_bad_directory p cwd ≡ false → first_cause (path_conditions p cwd) ≡ too_long (resolve p cwd)
       unfolding path_conditions first_cause too_long
-      last-cause e = rw (other_length p [] some, le-ltb max_path (length p) short, e)
+      last-cause e = rw (other_length p [] Some, le-ltb max_path (length p) short, e)
 
       pub resolves-path : {w : List ℕ} {n : ℕ} {r : Resolution} {after : List ℕ} → is_bad_directory p cwd ≡ false
           → Begins w n 2050 (slashed (enter_all [] (pieces (join cwd p)))) → Answers (rooted (take n w)) (too_long (rooted (take n w))) space r after
@@ -190,21 +190,21 @@ module _ (p cwd space : List ℕ) where
 
 -- the path is resolved, with n bytes
 pub record Given (p cwd : List ℕ) (n : ℕ) : Type 0 where
-  pub free : first_cause (path_conditions p cwd) ≡ none
+  pub free : first_cause (path_conditions p cwd) ≡ None
   pub size : length (resolve p cwd) ≡ n
   pub short : n ≤ max_path
 
-resolved-by : (path : List ℕ) (n : ℕ) (cause : Option Refusal) → answered path cause ≡ Resolved n → (cause ≡ none) × (length path ≡ n)
+resolved-by : (path : List ℕ) (n : ℕ) (cause : Option Refusal) → answered path cause ≡ Resolved n → (cause ≡ None) × (length path ≡ n)
 unfolding answered
-resolved-by path n none e = (refl, cc)
-resolved-by path n (some c) e = let z : ◌≡◌ {A = ℕ} 0 1 = cc in absurd (omega arith)
+resolved-by path n None e = (refl, cc)
+resolved-by path n (Some c) e = let z : ◌≡◌ {A = ℕ} 0 1 = cc in absurd (omega arith)
 
-refused-by : (path : List ℕ) (c : Refusal) (cause : Option Refusal) → answered path cause ≡ Refused c → cause ≡ some c
+refused-by : (path : List ℕ) (c : Refusal) (cause : Option Refusal) → answered path cause ≡ Refused c → cause ≡ Some c
 unfolding answered
-refused-by path c none e = let z : ◌≡◌ {A = ℕ} 0 1 = cc in absurd (omega arith)
-refused-by path c (some d) e = cc
+refused-by path c None e = let z : ◌≡◌ {A = ℕ} 0 1 = cc in absurd (omega arith)
+refused-by path c (Some d) e = cc
 
-pub no-cause-short : (p cwd : List ℕ) → first_cause (path_conditions p cwd) ≡ none → length (resolve p cwd) ≤ max_path
+pub no-cause-short : (p cwd : List ℕ) → first_cause (path_conditions p cwd) ≡ None → length (resolve p cwd) ≤ max_path
 unfolding path_conditions
 no-cause-short p cwd e =
     ltb-false _ _ (no-cause-head _ _ _ (no-cause-tail _ _ _ (no-cause-tail _ _ _ (no-cause-tail _ _ _ e))))
@@ -215,7 +215,7 @@ resolution-resolved p cwd n e =
     let b = resolved-by (resolve p cwd) n (first_cause (path_conditions p cwd)) e in
     record { free = b.0; size = b.1; short = omega (arith, no-cause-short p cwd b.0, b.1) }
 
-pub resolution-refused : (p cwd : List ℕ) (c : Refusal) → resolution p cwd ≡ Refused c → first_cause (path_conditions p cwd) ≡ some c
+pub resolution-refused : (p cwd : List ℕ) (c : Refusal) → resolution p cwd ≡ Refused c → first_cause (path_conditions p cwd) ≡ Some c
 unfolding resolution
 resolution-refused p cwd c e = refused-by (resolve p cwd) c (first_cause (path_conditions p cwd)) e
 

@@ -1,14 +1,14 @@
 -- Laws of what is given with a call: what the code's answer tells of it.
+use Rattle.std.specs.Prelude.{Option, None, Some, Ok, Err}
 use Prim.Native.Nat.{ℕ, ◌≤◌}
 use mathlib.Core.Path.{◌≡◌, refl, sym, ◌∙◌, subst}
 use mathlib.Core.List.{List, []}
-use mathlib.Core.Option.{Option, none, some}
 use mathlib.Core.Bool.{true}
 use native.Mathlib.Omega.{arith}
 use lib.ListN.{length, take}
 use borrow.Author.Tests.{le-leb, ltb-false}
 use Rattle.refusals.specs.declared.Refusal.{Refusal}
-use Rattle.refusals.specs.Refusals.{first_cause, refused, ok, and_then, unless}
+use Rattle.refusals.specs.Refusals.{first_cause, and_then, unless}
 use Rattle.refusals.proofs.CauseLaws.{no-cause-head, no-cause-tail, unless-ok}
 use Rattle.paths.specs.declared.Descriptor.{Descriptor}
 use Rattle.paths.specs.declared.Descriptor.TheVariants.{NoPath, Path}
@@ -36,7 +36,7 @@ gives-path e R = rw e (record { answer = R.answer; bytes = R.bytes })
 
 -- ---- a path that resolving gives
 
-pub resolve-path : (p cwd : List ℕ) → first_cause (path_conditions p cwd) ≡ none → is_path (resolve p cwd) ≡ true
+pub resolve-path : (p cwd : List ℕ) → first_cause (path_conditions p cwd) ≡ None → is_path (resolve p cwd) ≡ true
 unfolding is_path
 resolve-path p cwd e = and_both (le-leb _ _ (no-cause-short p cwd e)) (resolve-resolved p cwd)
 
@@ -44,7 +44,7 @@ resolve-path p cwd e = and_both (le-leb _ _ (no-cause-short p cwd e)) (resolve-r
 
 -- the first n bytes of the space stand for what is given
 pub record Stands (d : Descriptor) (p cwd : List ℕ) (n : ℕ) (space : List ℕ) : Type 0 where
-  pub query : given d p cwd ≡ ok (query_of d (take n space))
+  pub query : given d p cwd ≡ Ok (query_of d (take n space))
   pub room : n ≤ length space
   pub short : n ≤ max_path
   pub size : n ≡ given_size d p cwd
@@ -52,7 +52,7 @@ pub record Stands (d : Descriptor) (p cwd : List ℕ) (n : ℕ) (space : List �
   pub brief : d ≡ Path → length p ≤ max_path
   pub bytes : d ≡ Path → take n space ≡ resolve p cwd
 
-given-short : (p cwd : List ℕ) → first_cause (path_conditions p cwd) ≡ none → length p ≤ max_path
+given-short : (p cwd : List ℕ) → first_cause (path_conditions p cwd) ≡ None → length p ≤ max_path
 unfolding path_conditions
 given-short p cwd e = ltb-false _ _ (no-cause-head _ _ _ (no-cause-tail _ _ _ e))
 
@@ -86,14 +86,14 @@ path-stands p cwd space after n g e =
 -- ---- what the code's answer tells, of a path that is resolved by itself
 
 module _ {p cwd space after : List ℕ} {r : Resolution} (R : Resolves p cwd space r after) where
-  pub resolves-refused : {cause : Refusal} → r ≡ Refused cause → resolved p cwd ≡ refused cause
+  pub resolves-refused : {cause : Refusal} → r ≡ Refused cause → resolved p cwd ≡ Err cause
   unfolding resolved unless
   resolves-refused {cause} e = rw (resolution-refused p cwd cause (sym R.answer ∙ e))
 
   resolves-given : {n : ℕ} → r ≡ Resolved n → Given p cwd n
   resolves-given {n} e = resolution-resolved p cwd n (sym R.answer ∙ e)
 
-  pub resolves-ok : {n : ℕ} → r ≡ Resolved n → resolved p cwd ≡ ok (take n after)
+  pub resolves-ok : {n : ℕ} → r ≡ Resolved n → resolved p cwd ≡ Ok (take n after)
   unfolding resolved unless
   resolves-ok {n} e = let g = resolves-given e in rw (g.free, given-space p cwd space after n g R.bytes)
 
@@ -107,7 +107,7 @@ module _ {p cwd space after : List ℕ} {r : Resolution} where
   unfolding given_resolution
   none-zero S e = cc S.answer
 
-  none-refused : {cause : Refusal} → Gives NoPath p cwd space r after → r ≡ Refused cause → given NoPath p cwd ≡ refused cause
+  none-refused : {cause : Refusal} → Gives NoPath p cwd space r after → r ≡ Refused cause → given NoPath p cwd ≡ Err cause
   unfolding given_resolution
   none-refused S e = let z : ◌≡◌ {A = ℕ} 0 1 = cc S.answer in absurd (omega arith)
 
@@ -115,7 +115,7 @@ module _ {p cwd space after : List ℕ} {r : Resolution} where
   unfolding given_resolution given_into
   path-resolves S = record { answer = S.answer; bytes = S.bytes }
 
-  path-refused : {cause : Refusal} → Gives Path p cwd space r after → r ≡ Refused cause → given Path p cwd ≡ refused cause
+  path-refused : {cause : Refusal} → Gives Path p cwd space r after → r ≡ Refused cause → given Path p cwd ≡ Err cause
   unfolding given and_then
   path-refused S e = rw (resolves-refused (path-resolves S) e)
 
@@ -123,7 +123,7 @@ module _ {p cwd space after : List ℕ} {r : Resolution} where
   path-given {n} S e = let R = path-resolves S in path-stands p cwd space after n (resolves-given R e) R.bytes
 
 pub gives-refused : {d : Descriptor} {p cwd space after : List ℕ} {r : Resolution} {cause : Refusal}
-    → Gives d p cwd space r after → r ≡ Refused cause → given d p cwd ≡ refused cause
+    → Gives d p cwd space r after → r ≡ Refused cause → given d p cwd ≡ Err cause
 gives-refused {d = NoPath} S e = none-refused S e
 gives-refused {d = Path} S e = path-refused S e
 
@@ -135,41 +135,41 @@ gives-stands {d = Path} S e = path-given S e
 -- ---- two paths that are compared
 
 module _ (p q cwd : List ℕ) where
-  pub compare-first : {cause : Refusal} → resolved p cwd ≡ refused cause → compared.Refused cause ≡ compare_answer p q cwd
+  pub compare-first : {cause : Refusal} → resolved p cwd ≡ Err cause → compared.Refused cause ≡ compare_answer p q cwd
   unfolding compare_answer compare_call compared_of and_then
   compare-first e = rw e
 
-  pub compare-second : {a : List ℕ} {cause : Refusal} → resolved p cwd ≡ ok a → resolved q cwd ≡ refused cause → compared.Refused cause ≡ compare_answer p q cwd
+  pub compare-second : {a : List ℕ} {cause : Refusal} → resolved p cwd ≡ Ok a → resolved q cwd ≡ Err cause → compared.Refused cause ≡ compare_answer p q cwd
   unfolding compare_answer compare_call compared_of and_then
   compare-second e f = rw (e, f)
 
-  pub compare-found : {a b : List ℕ} {r : Comparison} → resolved p cwd ≡ ok a → resolved q cwd ≡ ok b → r ≡ comparison a b
+  pub compare-found : {a b : List ℕ} {r : Comparison} → resolved p cwd ≡ Ok a → resolved q cwd ≡ Ok b → r ≡ comparison a b
       → compared.Comparison r ≡ compare_answer p q cwd
   unfolding compare_answer compare_call compared_of and_then
   compare-found e f g = rw (e, f, g)
 
 -- ---- what follows from what is given
 
-free-by : (cause : Option Refusal) (path : List ℕ) {q : Query} → and_then (unless cause path) (λ x. ok (query_of Path x)) ≡ ok q → cause ≡ none
+free-by : (cause : Option Refusal) (path : List ℕ) {q : Query} → and_then (unless cause path) (λ x. Ok (query_of Path x)) ≡ Ok q → cause ≡ None
 unfolding and_then unless
-free-by none path e = refl
-free-by (some cause) path e = let z : ◌≡◌ {A = ℕ} 0 1 = cc in absurd (omega arith)
+free-by None path e = refl
+free-by (Some cause) path e = let z : ◌≡◌ {A = ℕ} 0 1 = cc in absurd (omega arith)
 
-pub resolved-fits : (p cwd : List ℕ) {q : List ℕ} → resolved p cwd ≡ ok q → is_path q ≡ true
+pub resolved-fits : (p cwd : List ℕ) {q : List ℕ} → resolved p cwd ≡ Ok q → is_path q ≡ true
 unfolding resolved
 resolved-fits p cwd e =
     let b = unless-ok (first_cause (path_conditions p cwd)) (resolve p cwd) e in
     rw b.1 at (resolve-path p cwd b.0)
 
 -- where nothing refuses it, its bytes stand in a space that it was resolved into
-pub given-stands : (d : Descriptor) (p cwd space : List ℕ) {q : Query} → given d p cwd ≡ ok q → Stands d p cwd (given_size d p cwd) (given_into d p cwd space)
+pub given-stands : (d : Descriptor) (p cwd space : List ℕ) {q : Query} → given d p cwd ≡ Ok q → Stands d p cwd (given_size d p cwd) (given_into d p cwd space)
 unfolding given resolved given_size given_into query_of
 given-stands NoPath p cwd space e = none-stands p cwd space
 given-stands Path p cwd space e =
     let free = free-by (first_cause (path_conditions p cwd)) (resolve p cwd) e in
     path-stands p cwd space _ _ (record { free = free; size = refl; short = no-cause-short p cwd free }) refl
 
-pub given-fits : (d : Descriptor) (p cwd : List ℕ) {q : Query} → given d p cwd ≡ ok q → is_query q ≡ true
+pub given-fits : (d : Descriptor) (p cwd : List ℕ) {q : Query} → given d p cwd ≡ Ok q → is_query q ≡ true
 given-fits d p cwd {q} e =
     let S = given-stands d p cwd [] e in
     let same : query_of d (take (given_size d p cwd) (given_into d p cwd [])) ≡ q = cc S.query in

@@ -1,6 +1,6 @@
 -- The call that compares two paths as given: its checking order and its answer. Scope, "Paths, at the bottom".
-use Rattle.std.specs.Prelude.{ℕ, List}
-use Rattle.refusals.specs.Refusals.{Result, refused, ok, and_then}
+use Rattle.std.specs.Prelude.{ℕ, List, Ok, Err}
+use Rattle.refusals.specs.Refusals.{Result, and_then}
 use Rattle.paths.specs.declared.Comparison.{Comparison}
 use Rattle.paths.specs.declared.Compared.{Compared}
 use Rattle.paths.specs.declared.Compared.TheVariants as compared
@@ -12,11 +12,11 @@ unfoldable pub compare_call : List ℕ → List ℕ → List ℕ → Result Comp
 compare_call p q cwd =
     and_then (resolved p cwd) (λ a.
     and_then (resolved q cwd) (λ b.
-    ok (comparison a b)))
+    Ok (comparison a b)))
 
 unfoldable pub compared_of : Result Comparison → Compared
-compared_of (refused cause) = compared.Refused cause
-compared_of (ok found) = compared.Comparison found
+compared_of (Err cause) = compared.Refused cause
+compared_of (Ok found) = compared.Comparison found
 
 -- what the comparison finds, or the first cause
 unfoldable pub compare_answer : List ℕ → List ℕ → List ℕ → Compared

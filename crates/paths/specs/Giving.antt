@@ -1,6 +1,6 @@
 -- What a call is given: no path, or a path with its working directory; and what it asks about once that is resolved. Scope, "A call comes in".
-use Rattle.std.specs.Prelude.{ℕ, ◌≡◌, List, Bool, true, ◌&&◌, length, leb}
-use Rattle.refusals.specs.Refusals.{first_cause, Result, ok, unless, and_then}
+use Rattle.std.specs.Prelude.{ℕ, ◌≡◌, List, Bool, true, ◌&&◌, length, leb, Ok}
+use Rattle.refusals.specs.Refusals.{first_cause, Result, unless, and_then}
 use Rattle.paths.specs.declared.Descriptor.{Descriptor}
 use Rattle.paths.specs.declared.Descriptor.TheVariants.{NoPath, Path}
 use Rattle.paths.specs.declared.Resolution.{Resolution}
@@ -32,8 +32,8 @@ query_of Path q = path q
 
 -- what is given, resolved; with no path nothing is resolved, and the working directory is not looked at
 unfoldable pub given : Descriptor → List ℕ → List ℕ → Result Query
-given NoPath p cwd = ok no_path
-given Path p cwd = and_then (resolved p cwd) (λ q. ok (path q))
+given NoPath p cwd = Ok no_path
+given Path p cwd = and_then (resolved p cwd) (λ q. Ok (path q))
 
 -- how many bytes it has then
 unfoldable pub given_size : Descriptor → List ℕ → List ℕ → ℕ

@@ -1,7 +1,6 @@
 -- Resolving: the scope's stand-in for `normalize_path`, and the form that it gives. Scope, "Paths, at the bottom".
-use Rattle.std.specs.Prelude.{ℕ, ◌≡◌, Bool, false, ◌&&◌, ◌||◌, not, cond, length, drop, eqb, ltb}
+use Rattle.std.specs.Prelude.{ℕ, ◌≡◌, Bool, false, ◌&&◌, ◌||◌, not, cond, length, drop, eqb, ltb, Option, None, Some}
 use mathlib.Core.List.{List, [], ◌∷◌, ◌++◌, drop_last}
-use Rattle.std.proofs.Math.Option.{Option, none, some}
 use Rattle.refusals.specs.declared.Refusal.{Refusal}
 use Rattle.refusals.specs.declared.Refusal.TheVariants.{EmptyPath, PathTooLong, BadDirectory, ResolvedTooLong}
 use Rattle.refusals.specs.Refusals.{Condition, when, first_cause}
@@ -67,16 +66,16 @@ path_conditions p cwd =
 -- ---- the answer of resolving, and the lent space after it
 
 unfoldable pub answered : List ℕ → Option Refusal → Resolution
-answered path none = Resolved (length path)
-answered path (some cause) = Refused cause
+answered path None = Resolved (length path)
+answered path (Some cause) = Refused cause
 
 -- the length of the resolved path, or the first cause
 unfoldable pub resolution : List ℕ → List ℕ → Resolution
 resolution p cwd = answered (resolve p cwd) (first_cause (path_conditions p cwd))
 
 unfoldable pub space_after : List ℕ → List ℕ → Option Refusal → List ℕ
-space_after path space none = path ++ drop (length path) space
-space_after path space (some cause) = space
+space_after path space None = path ++ drop (length path) space
+space_after path space (Some cause) = space
 
 -- the resolved path from the space's start and no more of it; on a refusal nothing
 unfoldable pub resolved_into : List ℕ → List ℕ → List ℕ → List ℕ

@@ -1,8 +1,8 @@
 -- As many words as the longest record has decide what the record is that words begin with.
+use Rattle.std.specs.Prelude.{Some}
 use Prim.Native.Nat.{ℕ}
 use mathlib.Core.Path.{◌≡◌, sym, ap, ◌∙◌}
 use mathlib.Core.List.{List, ◌++◌}
-use mathlib.Core.Option.{some}
 use lib.ListN.{length, take, drop, take-append-drop}
 use lib.Seq.{take-append_seam, take-take}
 use Rattle.records.specs.Numbers.{record_space}
@@ -12,8 +12,8 @@ use Rattle.records.proofs.WrittenLaws.{written-first}
 
 module _ (ws ws' : List ℕ) (same : take record_space ws ≡ take record_space ws') where
   -- the record that words begin with
-  pub same_first : (r : Read Change) → read_first ws ≡ some r
-      → read_first ws' ≡ some (record { value = r.value; rest = drop (length (change_words r.value)) ws' })
+  pub same_first : (r : Read Change) → read_first ws ≡ Some r
+      → read_first ws' ≡ Some (record { value = r.value; rest = drop (length (change_words r.value)) ws' })
   same_first r e =
       let c = change_words r.value in
       let W = written-first ws r e in

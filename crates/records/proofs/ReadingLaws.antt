@@ -1,8 +1,8 @@
 -- Laws of reading: the answer at each way out of the code.
+use Rattle.std.specs.Prelude.{Option, None, Some}
 use Prim.Native.Nat.{ℕ, zero, suc, ◌+◌, ◌-◌, ◌/◌, ◌%◌, ◌≤◌, ◌<◌}
 use mathlib.Core.Path.{◌≡◌, refl, sym, ap, subst, ◌∙◌}
 use mathlib.Core.List.{List, [], ◌∷◌}
-use mathlib.Core.Option.{Option, none, some}
 use mathlib.Core.Bool.{Bool, true, false, ◌&&◌, cond}
 use native.Mathlib.Nat.{zero-add, sub-zero}
 use native.Mathlib.Omega.{arith}
@@ -123,12 +123,12 @@ length-least w e = (
   leb-true (low_of_word w) max_path (and_right (eqb (kind_of_word w) length_kind && leb 1 (low_of_word w)) _ e),
 )
 
-unsized : (word : Word) (ws : List ℕ) → length_of word ≡ 0 → path_behind word ws ≡ none
+unsized : (word : Word) (ws : List ℕ) → length_of word ≡ 0 → path_behind word ws ≡ None
 unfolding length_of path_behind read_path
 unsized End ws e = refl
 unsized (Is w) ws e = go (is_length w) refl e
   where
-    go : (b : Bool) → is_length w ≡ b → cond b (low_of_word w) 0 ≡ 0 → cond b (if_resolved (bytes_from (low_of_word w) ws)) none ≡ none
+    go : (b : Bool) → is_length w ≡ b → cond b (low_of_word w) 0 ≡ 0 → cond b (if_resolved (bytes_from (low_of_word w) ws)) None ≡ None
     go true q f = let z = length-least w q in absurd (omega arith)
     go false q f = refl
 
@@ -143,7 +143,7 @@ sized (Is w) ws h = go (is_length w) refl
 
 -- ---- a path
 
-reads-no-path : {at : ℕ} {o : Option (Read (List ℕ))} {space after : List ℕ} → o ≡ none → after ≡ space → ReadsPath at o space path-answer.Malformed after
+reads-no-path : {at : ℕ} {o : Option (Read (List ℕ))} {space after : List ℕ} → o ≡ None → after ≡ space → ReadsPath at o space path-answer.Malformed after
 unfolding path_answer path_into
 reads-no-path e a = record { answer = rw e; bytes = a ∙ rw e }
 
@@ -176,7 +176,7 @@ module _ (ws : List ℕ) (at n : ℕ) where
         ∙ ap (λ (l : List ℕ). same (take (words_for n) (drop at ws)) (path_words l)) s
 
     if_path : Bool → List ℕ → Option (Read (List ℕ))
-    if_path b l = cond b (some (record { value = l; rest = drop (words_for n) (drop at ws) })) none
+    if_path b l = cond b (Some (record { value = l; rest = drop (words_for n) (drop at ws) })) None
 
     path-if : (b : Bool) → same (take (words_for (length p)) (drop at ws)) (path_words p) ≡ b
         → if_resolved (bytes_from n (drop at ws)) ≡ if_path (b && is_resolved p) p
@@ -225,7 +225,7 @@ module _ (ws : List ℕ) (at n : ℕ) (next : Word) (e : n ≡ length_of next) w
 -- ---- an act that takes a path
 
 module _ (q : List ℕ) where
-  pub action-rest : (k : ℕ) → (1 ≤ k → 5 ≤ k) → Revoke ≡ action_of (some (path_act k q))
+  pub action-rest : (k : ℕ) → (1 ≤ k → 5 ≤ k) → Revoke ≡ action_of (Some (path_act k q))
   unfolding path_act action_of
   action-rest zero h = refl
   action-rest (suc zero) h = absurd (omega (arith, h (omega arith)))
@@ -244,7 +244,7 @@ module _ (q : List ℕ) where
   act-path (suc (suc (suc (suc (suc k))))) = (refl, refl)
 
 -- of such an act the code has the kind alone
-act-same : (k : ℕ) (q : List ℕ) → action_of (some (path_act k q)) ≡ action_of (some (path_act k []))
+act-same : (k : ℕ) (q : List ℕ) → action_of (Some (path_act k q)) ≡ action_of (Some (path_act k []))
 unfolding path_act action_of
 act-same zero q = refl
 act-same (suc zero) q = refl
@@ -253,12 +253,12 @@ act-same (suc (suc (suc zero))) q = refl
 act-same (suc (suc (suc (suc zero)))) q = refl
 act-same (suc (suc (suc (suc (suc k))))) q = refl
 
-no_change : (run n : ℕ) → with_number run n none ≡ none
+no_change : (run n : ℕ) → with_number run n None ≡ None
 unfolding with_number
 no_change run zero = refl
 no_change run (suc n) = refl
 
-pub reads_nothing : {from : ℕ} {o : Option (Read Change)} {space : List ℕ} → o ≡ none → ReadsRecord from o space answer.Malformed space
+pub reads_nothing : {from : ℕ} {o : Option (Read Change)} {space : List ℕ} → o ≡ None → ReadsRecord from o space answer.Malformed space
 unfolding record_answer record_into
 reads_nothing e = record { answer = rw e; bytes = rw e }
 
@@ -266,13 +266,13 @@ reads_nothing e = record { answer = rw e; bytes = rw e }
 reads-path : {from : ℕ} (run number k : ℕ) {space after : List ℕ} (o : Option (Read (List ℕ))) {r : PathRead} → ReadsPath (from + 2 + 1) o space r after → 0 < number
     → ReadsRecord from (with_number run number (with_path (path_act k) o)) space (path_record run number k r) after
 unfolding with_path path_answer path_into record_answer record_into change_words path_record path_part
-reads-path run number k none R h = record { answer = rw (no_change run number, R.answer); bytes = rw (no_change run number) R.bytes }
-reads-path {from} run number k (some p) R h =
+reads-path run number k None R h = record { answer = rw (no_change run number, R.answer); bytes = rw (no_change run number) R.bytes }
+reads-path {from} run number k (Some p) R h =
     let q = p.value in
     record {
       answer =
           rw (R.answer, with-number run number (path_act k q) p.rest h, sym (act-same k q), (act-path q k).0, (act-path q k).1)
-          (ap (answer.Change run number (action_of (some (path_act k q))) (length q)) (omega arith));
+          (ap (answer.Change run number (action_of (Some (path_act k q))) (length q)) (omega arith));
       bytes = rw (with-number run number (path_act k q) p.rest h, (act-path q k).0) R.bytes;
     }
 
@@ -309,13 +309,13 @@ reads-switches run number [] space e h = record { answer = rw (no_change run num
 reads-switches {from} run number (w ∷ l) space {r} e h = go (is_switches w) e
   where
     go : (b : Bool) → r ≡ cond b (answer.Change run number (SetSwitches (low_of_word w)) 0 (from + 2 + 1)) answer.Malformed
-        → ReadsRecord from (with_number run number (cond b (some (record { value = set_switches (low_of_word w); rest = l })) none)) space r space
+        → ReadsRecord from (with_number run number (cond b (Some (record { value = set_switches (low_of_word w); rest = l })) None)) space r space
     go true f = let o = with-number run number (set_switches (low_of_word w)) l h in record { answer = f ∙ rw o (ap (answer.Change run number (SetSwitches (low_of_word w)) 0) (omega arith)); bytes = rw o }
     go false f = record { answer = rw (f, no_change run number); bytes = rw (no_change run number) }
 
 -- ---- a head
 
-act-unknown : (k : ℕ) (ws : List ℕ) → (1 ≤ k → 8 ≤ k) → read_act k ws ≡ none
+act-unknown : (k : ℕ) (ws : List ℕ) → (1 ≤ k → 8 ≤ k) → read_act k ws ≡ None
 unfolding read_act
 act-unknown zero ws h = refl
 act-unknown (suc zero) ws h = absurd (omega (arith, h (omega arith)))
@@ -348,20 +348,20 @@ module _ (run w : ℕ) (ws : List ℕ) where
       let bits : act_bits w ≡ k = omega arith in
       rw (eq-eqb (kind_of_word w) head_kind (omega arith), bits)
 
-  head-unnumbered : number_bits w ≡ 0 → read_head run (w ∷ ws) ≡ none
+  head-unnumbered : number_bits w ≡ 0 → read_head run (w ∷ ws) ≡ None
   unfolding read_head with_number
   head-unnumbered e = rw e (go (eqb (kind_of_word w) head_kind))
     where
-      go : (b : Bool) → ◌≡◌ {A = Option (Read Change)} (cond b none none) none
+      go : (b : Bool) → ◌≡◌ {A = Option (Read Change)} (cond b None None) None
       go true = refl
       go false = refl
 
   -- a word of another kind, or an act number that is none
-  head-unknown : (17 ≤ w / act_unit → 24 ≤ w / act_unit) → read_head run (w ∷ ws) ≡ none
+  head-unknown : (17 ≤ w / act_unit → 24 ≤ w / act_unit) → read_head run (w ∷ ws) ≡ None
   unfolding read_head
   head-unknown u = go (eqb (kind_of_word w) head_kind) refl
     where
-      go : (b : Bool) → eqb (kind_of_word w) head_kind ≡ b → cond b (with_number run (number_bits w) (read_act (act_bits w) ws)) none ≡ none
+      go : (b : Bool) → eqb (kind_of_word w) head_kind ≡ b → cond b (with_number run (number_bits w) (read_act (act_bits w) ws)) None ≡ None
       go true e =
           let k = eqb-true (kind_of_word w) head_kind e in
           rw (act-unknown (act_bits w) ws (λ l. omega (arith, u (omega arith)))) (no_change run (number_bits w))
@@ -369,7 +369,7 @@ module _ (run w : ℕ) (ws : List ℕ) where
 
 -- ---- a record by its front
 
-run-missing : (ws : List ℕ) → run_of (first_word ws) ≡ 0 → read_first ws ≡ none
+run-missing : (ws : List ℕ) → run_of (first_word ws) ≡ 0 → read_first ws ≡ None
 unfolding first_word read_first
 run-missing [] e = refl
 run-missing (w ∷ ws) e = rw (no-run-word w e)

@@ -1,8 +1,8 @@
 -- What is written reads back as itself, whatever words follow, and a record has at most as many words as its space.
+use Rattle.std.specs.Prelude.{Some}
 use Prim.Native.Nat.{ℕ, zero, suc, ◌+◌, ◌/◌, ◌≤◌, ◌<◌}
 use mathlib.Core.Path.{◌≡◌, refl, sym, ap, ◌∙◌}
 use mathlib.Core.List.{List, [], ◌∷◌, ◌++◌, append-nil}
-use mathlib.Core.Option.{some}
 use mathlib.Core.Bool.{true, false≢true}
 use native.Mathlib.Omega.{arith}
 use lib.ListN.{length}
@@ -97,7 +97,7 @@ module _ (a b c : ℕ) (ha : a < 256) (hb : b < 256) (hc : c < 256) where
   pub word-third : third (path_word a b c) ≡ c
   word-third = omega arith
 
-pub path-back : (p rest : List ℕ) → Bytes p → bytes_from (length p) (path_words p ++ rest) ≡ some (record { value = p; rest = rest })
+pub path-back : (p rest : List ℕ) → Bytes p → bytes_from (length p) (path_words p ++ rest) ≡ Some (record { value = p; rest = rest })
 unfolding bytes_from path_words with_bytes
 path-back [] rest B = refl
 path-back (a ∷ []) rest B =
@@ -149,7 +149,7 @@ module _ (p : List ℕ) (some_byte : 1 ≤ length p) (ok : is_path p ≡ true) w
         le-leb (length p) max_path (path-short p ok),
       )
 
-  path-read-back : (rest : List ℕ) → Bytes p → read_path (path_part p ++ rest) ≡ some (record { value = p; rest = rest })
+  path-read-back : (rest : List ℕ) → Bytes p → read_path (path_part p ++ rest) ≡ Some (record { value = p; rest = rest })
   unfolding read_path path_part if_resolved is_path
   path-read-back rest B = rw (length-word, length-low, path-back p rest B, and_right (leb (length p) max_path) _ ok)
 
@@ -165,7 +165,7 @@ not-empty [] e = absurd (none-empty e)
 not-empty (b ∷ p) e = omega arith
 
 insert-back : (k : Kind) (p rest : List ℕ) → is_path p ≡ true → Bytes p
-    → read_act (insert_number k) (path_part p ++ rest) ≡ some (record { value = insert_of k p; rest = rest })
+    → read_act (insert_number k) (path_part p ++ rest) ≡ Some (record { value = insert_of k p; rest = rest })
 unfolding read_act with_path
 insert-back G p rest ok B = rw (path-read-back p (not-empty p ok) ok rest B)
 insert-back D p rest ok B = rw (path-read-back p (not-empty p ok) ok rest B)
@@ -173,7 +173,7 @@ insert-back I p rest ok B = rw (path-read-back p (not-empty p ok) ok rest B)
 insert-back P p rest ok B = rw (path-read-back p (not-empty p ok) ok rest B)
 
 switches-back : (v : ℕ) (rest : List ℕ) → leb v max_switches ≡ true
-    → read_switches (word_of switches_kind v ∷ rest) ≡ some (record { value = set_switches v; rest = rest })
+    → read_switches (word_of switches_kind v ∷ rest) ≡ Some (record { value = set_switches v; rest = rest })
 unfolding read_switches is_switches
 switches-back v rest e =
     let h = leb-true v max_switches e in
@@ -181,7 +181,7 @@ switches-back v rest e =
     rw (low, eq-eqb (kind_of_word (word_of switches_kind v)) switches_kind (omega arith), e)
 
 act-back : (act : Act) (rest : List ℕ) → is_act act ≡ true → Bytes (act_path act)
-    → read_act (act_number act) (act_part act ++ rest) ≡ some (record { value = act; rest = rest })
+    → read_act (act_number act) (act_part act ++ rest) ≡ Some (record { value = act; rest = rest })
 unfolding read_act act_number act_part is_act is_entry act_path with_path
 act-back (insert e) rest ok B = unfold read_act with_path in insert-back e.kind e.path rest ok B
 act-back (set_switches v) rest ok B = switches-back v rest ok
@@ -204,13 +204,13 @@ act-few (revoke q) = omega arith
 act-few revoke_all = omega arith
 
 pub with-number : (run n : ℕ) (act : Act) (rest : List ℕ) → 1 ≤ n
-    → with_number run n (some (record { value = act; rest = rest })) ≡ some (record { value = record { run = run; number = n; act = act }; rest = rest })
+    → with_number run n (Some (record { value = act; rest = rest })) ≡ Some (record { value = record { run = run; number = n; act = act }; rest = rest })
 unfolding with_number
 with-number run zero act rest h = absurd (omega arith)
 with-number run (suc n) act rest h = refl
 
 -- whatever words follow
-pub read-first : (c : Change) (rest : List ℕ) → Readable c → read_first (change_words c ++ rest) ≡ some (record { value = c; rest = rest })
+pub read-first : (c : Change) (rest : List ℕ) → Readable c → read_first (change_words c ++ rest) ≡ Some (record { value = c; rest = rest })
 unfolding read_first read_head change_words
 read-first c rest R =
     let n = c.number in
@@ -230,7 +230,7 @@ read-first c rest R =
       with-number c.run n c.act rest R.above,
     )
 
-pub read_back : (c : Change) → Readable c → read_change (change_words c) ≡ some c
+pub read_back : (c : Change) → Readable c → read_change (change_words c) ≡ Some c
 unfolding read_change ended ended_by
 read_back c R = rw (ap read_first (sym (append-nil (change_words c))) ∙ read-first c [] R)
 

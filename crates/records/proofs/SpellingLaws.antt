@@ -1,8 +1,8 @@
 -- A path's words by their places, the bytes of words by theirs, and what reading a path's words comes to.
+use Rattle.std.specs.Prelude.{Option, None, Some}
 use Prim.Native.Nat.{ℕ, zero, suc, ◌+◌, ◌*◌, ◌≤◌, ◌<◌}
 use mathlib.Core.Path.{◌≡◌, refl, sym, ap, ◌∙◌}
 use mathlib.Core.List.{List, [], ◌∷◌, ◌++◌}
-use mathlib.Core.Option.{Option, none, some}
 use mathlib.Core.Bool.{Bool, true, false, false≢true}
 use native.Mathlib.Nat.{zero-add}
 use native.Mathlib.Omega.{arith}
@@ -122,7 +122,7 @@ spelled n ws = take n (word_bytes (take (words_for n) ws))
 
 module _ (n : ℕ) (ws : List ℕ) where
   -- words that are in order are those of the path that their bytes spell
-  in_order : (r : Read (List ℕ)) → bytes_from n ws ≡ some r → (words_for n ≤ length ws) × (take (words_for n) ws ≡ path_words (spelled n ws))
+  in_order : (r : Read (List ℕ)) → bytes_from n ws ≡ Some r → (words_for n ≤ length ws) × (take (words_for n) ws ≡ path_words (spelled n ws))
   unfolding spelled
   in_order r e =
       let W = bytes_read n ws r e in
@@ -135,14 +135,14 @@ module _ (n : ℕ) (ws : List ℕ) where
       ∙ bytes_back r.value W.bytes in
       (omega (arith, count, ap length W.words ∙ length-append (path_words r.value) r.rest), front ∙ ap path_words (sym spells))
 
-  bytes-none-by : (o : Option (Read (List ℕ))) → bytes_from n ws ≡ o → ((r : Read (List ℕ)) → bytes_from n ws ≡ some r → ⊥) → bytes_from n ws ≡ none
-  bytes-none-by none e h = e
-  bytes-none-by (some r) e h = absurd (h r e)
+  bytes-none-by : (o : Option (Read (List ℕ))) → bytes_from n ws ≡ o → ((r : Read (List ℕ)) → bytes_from n ws ≡ Some r → ⊥) → bytes_from n ws ≡ None
+  bytes-none-by None e h = e
+  bytes-none-by (Some r) e h = absurd (h r e)
 
-  pub bytes-short : length ws < words_for n → bytes_from n ws ≡ none
+  pub bytes-short : length ws < words_for n → bytes_from n ws ≡ None
   bytes-short h = bytes-none-by (bytes_from n ws) refl (λ r e. let w = (in_order r e).0 in omega arith)
 
-  pub bytes-other : same (take (words_for n) ws) (path_words (spelled n ws)) ≡ false → bytes_from n ws ≡ none
+  pub bytes-other : same (take (words_for n) ws) (path_words (spelled n ws)) ≡ false → bytes_from n ws ≡ None
   bytes-other h =
       bytes-none-by (bytes_from n ws) refl
       (λ r e. false≢true (sym h ∙ ap (λ (l : List ℕ). same l (path_words (spelled n ws))) (in_order r e).1 ∙ same_refl (path_words (spelled n ws))))
@@ -153,7 +153,7 @@ module _ (n : ℕ) (ws : List ℕ) where
     spelled-length = length-take-le n _ (omega (arith, bytes_count (take (words_for n) ws), length-take-le (words_for n) ws h))
 
     pub bytes-spelled : same (take (words_for n) ws) (path_words (spelled n ws)) ≡ true
-        → bytes_from n ws ≡ some (record { value = spelled n ws; rest = drop (words_for n) ws })
+        → bytes_from n ws ≡ Some (record { value = spelled n ws; rest = drop (words_for n) ws })
     unfolding spelled
     bytes-spelled e =
         let p = spelled n ws in

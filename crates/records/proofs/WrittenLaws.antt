@@ -1,8 +1,8 @@
 -- Words that are not malformed are the writing of what was read, and what was read can be recorded: a change has one record.
+use Rattle.std.specs.Prelude.{Option, None, Some}
 use Prim.Native.Nat.{ℕ, zero, suc, ◌+◌, ◌/◌, ◌≤◌}
 use mathlib.Core.Path.{◌≡◌, refl, sym, ap, subst, ◌∙◌}
 use mathlib.Core.List.{List, [], ◌∷◌, ◌++◌, append-nil}
-use mathlib.Core.Option.{Option, none, some}
 use mathlib.Core.Bool.{Bool, true, false, ◌&&◌, cond}
 use native.Mathlib.Omega.{arith}
 use lib.ListN.{length, drop, length-append}
@@ -66,10 +66,10 @@ use Rattle.records.specs.Records.{
 
 -- ---- what was read, if something was
 
-pub never : {A : Type 0} {a : A} → none ≡ some a → ⊥
+pub never : {A : Type 0} {a : A} → None ≡ Some a → ⊥
 never e = let z : ◌≡◌ {A = ℕ} 0 1 = cc in omega arith
 
-pub if_some : {A : Type 0} (b : Bool) {o : Option A} {a : A} → cond b o none ≡ some a → (b ≡ true) × (o ≡ some a)
+pub if_some : {A : Type 0} (b : Bool) {o : Option A} {a : A} → cond b o None ≡ Some a → (b ≡ true) × (o ≡ Some a)
 if_some true e = (refl, e)
 if_some false e = absurd (never e)
 
@@ -107,13 +107,13 @@ pub record PathWritten (n : ℕ) (ws : List ℕ) (r : Read (List ℕ)) : Type 0 
 record WithBytes (b : Bool) (p : List ℕ) (o : Option (Read (List ℕ))) (r : Read (List ℕ)) : Type 0 where
   good : b ≡ true
   q : Read (List ℕ)
-  behind : o ≡ some q
+  behind : o ≡ Some q
   whole : r ≡ record { value = p ++ q.value; rest = q.rest }
 
-with-bytes : (b : Bool) (p : List ℕ) (o : Option (Read (List ℕ))) (r : Read (List ℕ)) → with_bytes b p o ≡ some r → WithBytes b p o r
+with-bytes : (b : Bool) (p : List ℕ) (o : Option (Read (List ℕ))) (r : Read (List ℕ)) → with_bytes b p o ≡ Some r → WithBytes b p o r
 unfolding with_bytes
-with-bytes true p (some q) r e = record { good = refl; q = q; behind = refl; whole = cc }
-with-bytes true p none r e = absurd (never e)
+with-bytes true p (Some q) r e = record { good = refl; q = q; behind = refl; whole = cc }
+with-bytes true p None r e = absurd (never e)
 with-bytes false p o r e = absurd (never e)
 
 -- from its bytes and what follows
@@ -125,14 +125,14 @@ path-is p rest f l e B = record {
   bytes = subst (λ (x : Read (List ℕ)). Bytes x.value) (sym f) B;
 }
 
-path-none : (ws : List ℕ) (r : Read (List ℕ)) → some (record { value = []; rest = ws }) ≡ some r → PathWritten 0 ws r
+path-none : (ws : List ℕ) (r : Read (List ℕ)) → Some (record { value = []; rest = ws }) ≡ Some r → PathWritten 0 ws r
 unfolding path_words
 path-none ws r e =
     let f : record { value = []; rest = ws } ≡ r = cc in
     path-is [] ws (sym f) refl refl bytes-none
 
 path-one : (w : ℕ) (ws : List ℕ) (r : Read (List ℕ))
-    → WithBytes (is_path_word w && eqb (second w) 0 && eqb (third w) 0) (first w ∷ []) (some (record { value = []; rest = ws })) r → PathWritten 1 (w ∷ ws) r
+    → WithBytes (is_path_word w && eqb (second w) 0 && eqb (third w) 0) (first w ∷ []) (Some (record { value = []; rest = ws })) r → PathWritten 1 (w ∷ ws) r
 unfolding path_words
 path-one w ws r W =
     let q : record { value = []; rest = ws } ≡ W.q = cc W.behind in
@@ -146,7 +146,7 @@ path-one w ws r W =
     (bytes-cons {a = first w} (omega arith) bytes-none)
 
 path-two : (w : ℕ) (ws : List ℕ) (r : Read (List ℕ))
-    → WithBytes (is_path_word w && eqb (third w) 0) (first w ∷ second w ∷ []) (some (record { value = []; rest = ws })) r → PathWritten 2 (w ∷ ws) r
+    → WithBytes (is_path_word w && eqb (third w) 0) (first w ∷ second w ∷ []) (Some (record { value = []; rest = ws })) r → PathWritten 2 (w ∷ ws) r
 unfolding path_words
 path-two w ws r W =
     let q : record { value = []; rest = ws } ≡ W.q = cc W.behind in
@@ -165,7 +165,7 @@ path-three n w ws r W R =
     (ap (λ (k : ℕ). k ∷ ws) (path-word w W.good) ∙ ap (λ (l : List ℕ). path_word (first w) (second w) (third w) ∷ l) R.words)
     (bytes-cons {a = first w} (omega arith) (bytes-cons {a = second w} (omega arith) (bytes-cons {a = third w} (omega arith) R.bytes)))
 
-pub bytes_read : (n : ℕ) (ws : List ℕ) (r : Read (List ℕ)) → bytes_from n ws ≡ some r → PathWritten n ws r
+pub bytes_read : (n : ℕ) (ws : List ℕ) (r : Read (List ℕ)) → bytes_from n ws ≡ Some r → PathWritten n ws r
 unfolding bytes_from
 bytes_read zero ws r e = path-none ws r e
 bytes_read (suc zero) [] r e = absurd (never e)
@@ -179,10 +179,10 @@ bytes_read (suc (suc (suc n))) (w ∷ ws) r e =
 
 -- ---- length and path words
 
-resolved-some : (o : Option (Read (List ℕ))) (r : Read (List ℕ)) → if_resolved o ≡ some r → (o ≡ some r) × (is_resolved r.value ≡ true)
+resolved-some : (o : Option (Read (List ℕ))) (r : Read (List ℕ)) → if_resolved o ≡ Some r → (o ≡ Some r) × (is_resolved r.value ≡ true)
 unfolding if_resolved
-resolved-some none r e = absurd (never e)
-resolved-some (some q) r e =
+resolved-some None r e = absurd (never e)
+resolved-some (Some q) r e =
     let C = if_some (is_resolved q.value) e in
     let same : q ≡ r = cc C.1 in
     (C.1, ap (λ (x : Read (List ℕ)). is_resolved x.value) (sym same) ∙ C.0)
@@ -192,7 +192,7 @@ record PathPart (ws : List ℕ) (r : Read (List ℕ)) : Type 0 where
   path : is_path r.value ≡ true
   bytes : Bytes r.value
 
-path-read : (ws : List ℕ) (r : Read (List ℕ)) → read_path ws ≡ some r → PathPart ws r
+path-read : (ws : List ℕ) (r : Read (List ℕ)) → read_path ws ≡ Some r → PathPart ws r
 unfolding read_path path_part is_length is_path
 path-read [] r e = absurd (never e)
 path-read (w ∷ ws) r e =
@@ -234,18 +234,18 @@ record OfPath (k : ℕ) (f : List ℕ → Act) : Type 0 where
   fits : (p : List ℕ) → is_act (f p) ≡ is_path p
   path : (p : List ℕ) → p ≡ act_path (f p)
 
-path-act : {k : ℕ} (f : List ℕ → Act) → OfPath k f → (ws : List ℕ) (r : Read Act) → with_path f (read_path ws) ≡ some r → ActRead k ws r
+path-act : {k : ℕ} (f : List ℕ → Act) → OfPath k f → (ws : List ℕ) (r : Read Act) → with_path f (read_path ws) ≡ Some r → ActRead k ws r
 unfolding with_path
 path-act {k} f F ws r e = go (read_path ws) refl e
   where
-    go : (o : Option (Read (List ℕ))) → read_path ws ≡ o → with_path f o ≡ some r → ActRead k ws r
-    go none x y = absurd (never y)
-    go (some p) x y =
+    go : (o : Option (Read (List ℕ))) → read_path ws ≡ o → with_path f o ≡ Some r → ActRead k ws r
+    go None x y = absurd (never y)
+    go (Some p) x y =
         let R = path-read ws p x in
         act-is (f p.value) p.rest (cc) (F.number p.value) (R.words ∙ ap (λ (l : List ℕ). l ++ p.rest) (F.part p.value))
         (F.fits p.value ∙ R.path) (subst Bytes (F.path p.value) R.bytes)
 
-switches-read : (ws : List ℕ) (r : Read Act) → read_switches ws ≡ some r → ActRead 5 ws r
+switches-read : (ws : List ℕ) (r : Read Act) → read_switches ws ≡ Some r → ActRead 5 ws r
 unfolding read_switches is_switches act_number act_part is_act act_path
 switches-read [] r e = absurd (never e)
 switches-read (w ∷ ws) r e =
@@ -261,7 +261,7 @@ of-revoke : OfPath 6 revoke
 unfolding act_number act_part is_act act_path
 of-revoke = record { number = λ p. refl; part = λ p. refl; fits = λ p. refl; path = λ p. refl }
 
-act-read : (k : ℕ) (ws : List ℕ) (r : Read Act) → read_act k ws ≡ some r → ActRead k ws r
+act-read : (k : ℕ) (ws : List ℕ) (r : Read Act) → read_act k ws ≡ Some r → ActRead k ws r
 unfolding read_act act_number act_part is_act act_path
 act-read zero ws r e = absurd (never e)
 act-read (suc zero) ws r e = path-act (insert_of G) (of-insert G) ws r e
@@ -278,14 +278,14 @@ act-read (suc (suc (suc (suc (suc (suc (suc (suc n)))))))) ws r e = absurd (neve
 record NumberRead (run n : ℕ) (o : Option (Read Act)) (r : Read Change) : Type 0 where
   some_number : 1 ≤ n
   a : Read Act
-  behind : o ≡ some a
+  behind : o ≡ Some a
   whole : record { value = record { run = run; number = n; act = a.value }; rest = a.rest } ≡ r
 
-number_read : (run n : ℕ) (o : Option (Read Act)) (r : Read Change) → with_number run n o ≡ some r → NumberRead run n o r
+number_read : (run n : ℕ) (o : Option (Read Act)) (r : Read Change) → with_number run n o ≡ Some r → NumberRead run n o r
 unfolding with_number
 number_read run zero o r e = absurd (never e)
-number_read run (suc n) none r e = absurd (never e)
-number_read run (suc n) (some a) r e = record { some_number = omega arith; a = a; behind = refl; whole = cc }
+number_read run (suc n) None r e = absurd (never e)
+number_read run (suc n) (Some a) r e = record { some_number = omega arith; a = a; behind = refl; whole = cc }
 
 -- words that begin with a record are the writing of what was read, and what follows
 pub record Written (ws : List ℕ) (r : Read Change) : Type 0 where
@@ -293,7 +293,7 @@ pub record Written (ws : List ℕ) (r : Read Change) : Type 0 where
   pub readable : Readable r.value
 
 -- a run word v, and a head with what its act takes
-written-head : (v : ℕ) (ws : List ℕ) (r : Read Change) → is_run_word v ≡ true → read_head (low_of_word v) ws ≡ some r → Written (v ∷ ws) r
+written-head : (v : ℕ) (ws : List ℕ) (r : Read Change) → is_run_word v ≡ true → read_head (low_of_word v) ws ≡ Some r → Written (v ∷ ws) r
 unfolding read_head change_words
 written-head v [] r R e = absurd (never e)
 written-head v (w ∷ ws) r R e =
@@ -311,35 +311,35 @@ written-head v (w ∷ ws) r R e =
           (record { of_run = run-right v R; above = N.some_number; few = omega arith; fits = A.fits; bytes = A.bytes });
     }
 
-pub written-first : (ws : List ℕ) (r : Read Change) → read_first ws ≡ some r → Written ws r
+pub written-first : (ws : List ℕ) (r : Read Change) → read_first ws ≡ Some r → Written ws r
 unfolding read_first
 written-first [] r e = absurd (never e)
 written-first (w ∷ ws) r e = let C = if_some (is_run_word w) e in written-head w ws r C.0 C.1
 
-ended_by_lem : (c : Change) (rest : List ℕ) (d : Change) → ended_by c rest ≡ some d → (c ≡ d) × (rest ≡ [])
+ended_by_lem : (c : Change) (rest : List ℕ) (d : Change) → ended_by c rest ≡ Some d → (c ≡ d) × (rest ≡ [])
 unfolding ended_by
 ended_by_lem c [] d e = (cc, refl)
 ended_by_lem c (w ∷ ws) d e = absurd (never e)
 
-ended-none : (c : Change) (rest : List ℕ) → length rest ≡ 0 → ended_by c rest ≡ some c
+ended-none : (c : Change) (rest : List ℕ) → length rest ≡ 0 → ended_by c rest ≡ Some c
 unfolding ended_by
 ended-none c [] z = refl
 ended-none c (w ∷ ws) z = absurd (omega arith)
 
-ended_some : (c : Change) (rest : List ℕ) → (length rest ≡ 0 → ⊥) → ended_by c rest ≡ none
+ended_some : (c : Change) (rest : List ℕ) → (length rest ≡ 0 → ⊥) → ended_by c rest ≡ None
 unfolding ended_by
 ended_some c [] z = absurd (z refl)
 ended_some c (w ∷ ws) z = refl
 
-ended_at : (o : Option (Read Change)) (c : Change) → ended o ≡ some c → o ≡ some (record { value = c; rest = [] })
+ended_at : (o : Option (Read Change)) (c : Change) → ended o ≡ Some c → o ≡ Some (record { value = c; rest = [] })
 unfolding ended
-ended_at none c e = absurd (never e)
-ended_at (some r) c e =
+ended_at None c e = absurd (never e)
+ended_at (Some r) c e =
     let E = ended_by_lem r.value r.rest c e in
-    λ i. some (record { value = E.0 i; rest = E.1 i })
+    λ i. Some (record { value = E.0 i; rest = E.1 i })
 
 -- words that are not malformed are the record of the change that they read as
-pub written_back : (ws : List ℕ) (c : Change) → read_change ws ≡ some c → (ws ≡ change_words c) × Readable c
+pub written_back : (ws : List ℕ) (c : Change) → read_change ws ≡ Some c → (ws ≡ change_words c) × Readable c
 unfolding read_change
 written_back ws c e =
     let W = written-first ws (record { value = c; rest = [] }) (ended_at (read_first ws) c e) in
@@ -347,25 +347,25 @@ written_back ws c e =
 
 -- ---- where a record ends
 
-pub rest_at : (ws : List ℕ) (from : ℕ) (r : Read Change) → read_first (drop from ws) ≡ some r → r.rest ≡ drop (from + length (change_words r.value)) ws
+pub rest_at : (ws : List ℕ) (from : ℕ) (r : Read Change) → read_first (drop from ws) ≡ Some r → r.rest ≡ drop (from + length (change_words r.value)) ws
 rest_at ws from r e =
     let c = change_words r.value in
     sym (drop-append_seam c r.rest) ∙ ap (drop (length c)) (sym (written-first (drop from ws) r e).words) ∙ drop-drop (length c) from ws
 
 -- words are one record, by whether the one that they begin with ends where they end
 module _ (ws : List ℕ) where
-  pub no_record : read_first ws ≡ none → read_change ws ≡ none
+  pub no_record : read_first ws ≡ None → read_change ws ≡ None
   unfolding read_change ended
   no_record e = rw e
 
-  module _ (r : Read Change) (e : read_first ws ≡ some r) where
+  module _ (r : Read Change) (e : read_first ws ≡ Some r) where
     record-long : length ws ≡ length (change_words r.value) + length r.rest
     record-long = ap length (written-first ws r e).words ∙ length-append (change_words r.value) r.rest
 
-    pub whole-record : length (change_words r.value) ≡ length ws → read_change ws ≡ some r.value
+    pub whole-record : length (change_words r.value) ≡ length ws → read_change ws ≡ Some r.value
     unfolding read_change ended
     whole-record l = rw e (ended-none r.value r.rest (omega (arith, record-long)))
 
-    pub words_left : (length (change_words r.value) ≡ length ws → ⊥) → read_change ws ≡ none
+    pub words_left : (length (change_words r.value) ≡ length ws → ⊥) → read_change ws ≡ None
     unfolding read_change ended
     words_left l = rw e (ended_some r.value r.rest (λ z. l (omega (arith, record-long))))

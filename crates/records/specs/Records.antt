@@ -1,6 +1,5 @@
 -- Records: an act on the main's table with its run and its number, as 32-bit words, and back. Scope, "Handover, at the top", and "A main that starts over".
-use Rattle.std.specs.Prelude.{ℕ, zero, suc, ◌+◌, ◌*◌, ◌/◌, ◌%◌, ◌≤◌, ◌≡◌, List, [], ◌∷◌, ◌++◌, Bool, true, false, ◌&&◌, cond, length, leb, eqb}
-use Rattle.std.proofs.Math.Option.{Option, none, some}
+use Rattle.std.specs.Prelude.{ℕ, zero, suc, ◌+◌, ◌*◌, ◌/◌, ◌%◌, ◌≤◌, ◌≡◌, List, [], ◌∷◌, ◌++◌, Bool, true, false, ◌&&◌, cond, length, leb, eqb, Option, None, Some}
 use Rattle.paths.specs.Components.{Bytes}
 use Rattle.paths.specs.Resolving.{max_path, is_resolved}
 use Rattle.table.specs.declared.Kind.{Kind}
@@ -165,14 +164,14 @@ pub record Read (A : Type 0) : Type 0 where
 
 -- bytes of a word that is in order, before those that follow
 unfoldable pub with_bytes : Bool → List ℕ → Option (Read (List ℕ)) → Option (Read (List ℕ))
-with_bytes true p (some r) = some (record { value = p ++ r.value; rest = r.rest })
-with_bytes true p none = none
-with_bytes false p r = none
+with_bytes true p (Some r) = Some (record { value = p ++ r.value; rest = r.rest })
+with_bytes true p None = None
+with_bytes false p r = None
 
 -- n bytes from path words; unused bytes of the last are zero
 unfoldable pub bytes_from : ℕ → List ℕ → Option (Read (List ℕ))
-bytes_from zero ws = some (record { value = []; rest = ws })
-bytes_from (suc n) [] = none
+bytes_from zero ws = Some (record { value = []; rest = ws })
+bytes_from (suc n) [] = None
 bytes_from (suc zero) (w ∷ ws) =
     with_bytes (is_path_word w && eqb (second w) 0 && eqb (third w) 0) (first w ∷ []) (bytes_from zero ws)
 bytes_from (suc (suc zero)) (w ∷ ws) = with_bytes (is_path_word w && eqb (third w) 0) (first w ∷ second w ∷ []) (bytes_from zero ws)
@@ -180,60 +179,60 @@ bytes_from (suc (suc (suc n))) (w ∷ ws) = with_bytes (is_path_word w) (first w
 
 -- a path not in resolved form is malformed
 unfoldable pub if_resolved : Option (Read (List ℕ)) → Option (Read (List ℕ))
-if_resolved none = none
-if_resolved (some r) = cond (is_resolved r.value) (some r) none
+if_resolved None = None
+if_resolved (Some r) = cond (is_resolved r.value) (Some r) None
 
 -- length and path words
 unfoldable pub read_path : List ℕ → Option (Read (List ℕ))
-read_path [] = none
-read_path (w ∷ ws) = cond (is_length w) (if_resolved (bytes_from (low_of_word w) ws)) none
+read_path [] = None
+read_path (w ∷ ws) = cond (is_length w) (if_resolved (bytes_from (low_of_word w) ws)) None
 
 unfoldable pub with_path : (List ℕ → Act) → Option (Read (List ℕ)) → Option (Read Act)
-with_path act none = none
-with_path act (some r) = some (record { value = act r.value; rest = r.rest })
+with_path act None = None
+with_path act (Some r) = Some (record { value = act r.value; rest = r.rest })
 
 unfoldable pub read_switches : List ℕ → Option (Read Act)
-read_switches [] = none
-read_switches (w ∷ ws) = cond (is_switches w) (some (record { value = set_switches (low_of_word w); rest = ws })) none
+read_switches [] = None
+read_switches (w ∷ ws) = cond (is_switches w) (Some (record { value = set_switches (low_of_word w); rest = ws })) None
 
 abbrev pub insert_of : Kind → List ℕ → Act
 insert_of kind p = insert (record { kind = kind; path = p })
 
 -- what must follow a head, by its act number; above 7 there is none
 unfoldable pub read_act : ℕ → List ℕ → Option (Read Act)
-read_act zero ws = none
+read_act zero ws = None
 read_act (suc zero) ws = with_path (insert_of G) (read_path ws)
 read_act (suc (suc zero)) ws = with_path (insert_of D) (read_path ws)
 read_act (suc (suc (suc zero))) ws = with_path (insert_of I) (read_path ws)
 read_act (suc (suc (suc (suc zero)))) ws = with_path (insert_of P) (read_path ws)
 read_act (suc (suc (suc (suc (suc zero))))) ws = read_switches ws
 read_act (suc (suc (suc (suc (suc (suc zero)))))) ws = with_path revoke (read_path ws)
-read_act (suc (suc (suc (suc (suc (suc (suc zero))))))) ws = some (record { value = revoke_all; rest = ws })
-read_act (suc (suc (suc (suc (suc (suc (suc (suc n)))))))) ws = none
+read_act (suc (suc (suc (suc (suc (suc (suc zero))))))) ws = Some (record { value = revoke_all; rest = ws })
+read_act (suc (suc (suc (suc (suc (suc (suc (suc n)))))))) ws = None
 
 -- no record has number 0
 unfoldable pub with_number : ℕ → ℕ → Option (Read Act) → Option (Read Change)
-with_number run zero r = none
-with_number run (suc n) none = none
-with_number run (suc n) (some r) = some (record { value = record { run = run; number = suc n; act = r.value }; rest = r.rest })
+with_number run zero r = None
+with_number run (suc n) None = None
+with_number run (suc n) (Some r) = Some (record { value = record { run = run; number = suc n; act = r.value }; rest = r.rest })
 
 -- what follows the run word: a head, and what its act takes
 unfoldable pub read_head : ℕ → List ℕ → Option (Read Change)
-read_head run [] = none
-read_head run (w ∷ ws) = cond (eqb (kind_of_word w) head_kind) (with_number run (number_bits w) (read_act (act_bits w) ws)) none
+read_head run [] = None
+read_head run (w ∷ ws) = cond (eqb (kind_of_word w) head_kind) (with_number run (number_bits w) (read_act (act_bits w) ws)) None
 
 -- the record that words begin with; it ends where its own act and length say. Without its run word it is malformed
 unfoldable pub read_first : List ℕ → Option (Read Change)
-read_first [] = none
-read_first (w ∷ ws) = cond (is_run_word w) (read_head (low_of_word w) ws) none
+read_first [] = None
+read_first (w ∷ ws) = cond (is_run_word w) (read_head (low_of_word w) ws) None
 
 unfoldable pub ended_by : Change → List ℕ → Option Change
-ended_by c [] = some c
-ended_by c (w ∷ ws) = none
+ended_by c [] = Some c
+ended_by c (w ∷ ws) = None
 
 unfoldable pub ended : Option (Read Change) → Option Change
-ended none = none
-ended (some r) = ended_by r.value r.rest
+ended None = None
+ended (Some r) = ended_by r.value r.rest
 
 -- the change that words are: its record must end where they end
 unfoldable pub read_change : List ℕ → Option Change

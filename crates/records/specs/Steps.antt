@@ -1,6 +1,5 @@
 -- Steps of reading a record: a length, the bytes that words hold, a path, and what a head that takes a path or switches comes to.
-use Rattle.std.specs.Prelude.{ℕ, zero, suc, ◌+◌, ◌/◌, ◌≡◌, List, [], ◌∷◌, Bool, ◌&&◌, cond, length, take, drop}
-use Rattle.std.proofs.Math.Option.{Option, none, some}
+use Rattle.std.specs.Prelude.{ℕ, zero, suc, ◌+◌, ◌/◌, ◌≡◌, List, [], ◌∷◌, Bool, ◌&&◌, cond, length, take, drop, Option, None, Some}
 use Rattle.paths.specs.Components.{same}
 use Rattle.paths.specs.Resolving.{is_resolved}
 use Rattle.paths.specs.Copying.{begun}
@@ -36,7 +35,7 @@ length_of (Is w) = cond (is_length w) (low_of_word w) 0
 
 -- the path whose length a word says, from the words behind that word
 unfoldable pub path_behind : Word → List ℕ → Option (Read (List ℕ))
-path_behind End ws = none
+path_behind End ws = None
 path_behind (Is w) ws = read_path (w ∷ ws)
 
 -- the words from `at` on begin with those of p, and p is in resolved form
@@ -50,13 +49,13 @@ pub record HandsOver (words : List ℕ) (at : ℕ) (p space : List ℕ) (r : Boo
 
 -- a path whose words begin at `at`: its length, and where the words behind it begin
 unfoldable pub path_answer : ℕ → Option (Read (List ℕ)) → PathRead
-path_answer at none = path-answer.Malformed
-path_answer at (some r) = path-answer.Path (length r.value) (at + length (path_words r.value))
+path_answer at None = path-answer.Malformed
+path_answer at (Some r) = path-answer.Path (length r.value) (at + length (path_words r.value))
 
 -- it stands from the space's start, or the space is as it was
 unfoldable pub path_into : Option (Read (List ℕ)) → List ℕ → List ℕ
-path_into none space = space
-path_into (some r) space = begun r.value space
+path_into None space = space
+path_into (Some r) space = begun r.value space
 
 pub record ReadsPath (at : ℕ) (path : Option (Read (List ℕ))) (space : List ℕ) (r : PathRead) (after : List ℕ) : Type 0 where
   pub answer : r ≡ path_answer at path
@@ -83,7 +82,7 @@ path_act (suc (suc (suc (suc (suc n))))) = revoke
 -- the record of a head that takes a path, by what reading the path answered
 unfoldable pub path_record : ℕ → ℕ → ℕ → PathRead → Record
 path_record run number act path-answer.Malformed = answer.Malformed
-path_record run number act (path-answer.Path n end) = answer.Change run number (action_of (some (path_act act []))) n end
+path_record run number act (path-answer.Path n end) = answer.Change run number (action_of (Some (path_act act []))) n end
 
 -- the record of a head that takes switches, by the word behind it, and by where the words behind that begin
 unfoldable pub switches_record : ℕ → ℕ → Word → ℕ → Record

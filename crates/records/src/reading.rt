@@ -1,6 +1,5 @@
 // Reading a record word after word from lent words. Words that depart from the form in anything are malformed.
-ghost use Rattle.std.specs.Prelude.{◌≡◌, List, ℕ, ◌+◌, ◌-◌, ◌*◌, ◌≤◌, length, take, drop};
-ghost use Rattle.std.proofs.Math.Option.{some};
+ghost use Rattle.std.specs.Prelude.{◌≡◌, List, ℕ, ◌+◌, ◌-◌, ◌*◌, ◌≤◌, length, take, drop, Some};
 ghost use Rattle.paths.specs.Components.{same};
 ghost use Rattle.paths.specs.Copying.{overwrite};
 ghost use Rattle.paths.specs.Resolving.{max_path};
@@ -138,7 +137,7 @@ fn read_path(
 
 // The act of a head that takes a path.
 fn path_action(act: u8) -> Action
-    ensures { (q : List ℕ) → result ≡ action_of (some (path_act act q)) }
+    ensures { (q : List ℕ) → result ≡ action_of (Some (path_act act q)) }
 {
     match act {
         1 => Action::Insert(Kind::G),

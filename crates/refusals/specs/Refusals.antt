@@ -1,6 +1,6 @@
 -- The causes of a refusal with their numbers, and the checking order. Scope, "A call comes in".
-use Rattle.std.specs.Prelude.{ℕ, List, [], ◌∷◌, Bool, cond}
-use Rattle.std.proofs.Math.Option.{Option, none, some}
+use Rattle.std.specs.Prelude.{ℕ, List, [], ◌∷◌, Bool, cond, Option, None, Some, Ok, Err}
+use Rattle.std.specs.declared.result.Result as result
 use Rattle.refusals.specs.declared.Refusal.{Refusal}
 use Rattle.refusals.specs.declared.Refusal.TheVariants.{
   NoTable,
@@ -42,25 +42,24 @@ pub data Condition : Type 0 where
 
 -- the first condition that holds
 unfoldable pub first_cause : List Condition → Option Refusal
-first_cause [] = none
-first_cause (when holds cause ∷ conditions) = cond holds (some cause) (first_cause conditions)
+first_cause [] = None
+first_cause (when holds cause ∷ conditions) = cond holds (Some cause) (first_cause conditions)
 
--- what a step of a call comes to: it is refused, or it hands something on
-pub data Result (A : Type 0) : Type 0 where
-  refused : Refusal → Result A
-  ok : A → Result A
+-- what a step of a call comes to, and what a call answers: it hands something on, or it is refused
+abbrev pub Result : Type 0 → Type 0
+Result A = result.Result A Refusal
 
 -- the next step, with what this one hands on; a call that is refused goes no further
 unfoldable pub and_then : {A B : Type 0} → Result A → (A → Result B) → Result B
-and_then (refused cause) next = refused cause
-and_then (ok a) next = next a
+and_then (Err cause) next = Err cause
+and_then (Ok a) next = next a
 
 -- a is handed on unless there is a cause
 unfoldable pub unless : {A : Type 0} → Option Refusal → A → Result A
-unless none a = ok a
-unless (some cause) a = refused cause
+unless None a = Ok a
+unless (Some cause) a = Err cause
 
 -- why it is refused, if it is
 unfoldable pub cause_of : {A : Type 0} → Result A → Option Refusal
-cause_of (refused cause) = some cause
-cause_of (ok a) = none
+cause_of (Err cause) = Some cause
+cause_of (Ok a) = None

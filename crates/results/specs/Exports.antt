@@ -1,7 +1,7 @@
 -- The calls as the C program makes them: each keeps the promise of its call, and the numbers that C gets are those of what it answers. Lent numbers are
 -- always written. m and s are the lent memory and the lent text space, m' and s' the same after the call; r is the result.
-use Rattle.std.specs.Prelude.{ℕ, ◌≡◌, List, ℤ, pos, length}
-use Rattle.refusals.specs.Refusals.{Result, refused, ok}
+use Rattle.std.specs.Prelude.{ℕ, ◌≡◌, List, ℤ, pos, length, Ok, Err}
+use Rattle.refusals.specs.Refusals.{Result}
 use Rattle.paths.specs.declared.Descriptor.{Descriptor}
 use Rattle.paths.specs.declared.Compared.{Compared}
 use Rattle.paths.specs.Comparing.{compare_answer}
@@ -127,20 +127,20 @@ ExportedUnitRevoke s s' r = Exported Answer answer_number (RevokesUnit s s') r
 
 -- the bytes that it takes
 unfoldable pub used_in : Result Table → ℤ
-used_in (refused cause) = refused_number cause
-used_in (ok t) = pos (used_bytes t)
+used_in (Err cause) = refused_number cause
+used_in (Ok t) = pos (used_bytes t)
 
 abbrev pub ExportedUsed : List ℕ → ℤ → Type 0
 ExportedUsed m r = r ≡ used_in (table_in m)
 
 -- a number of the table, or 0 where there is none
 unfoldable pub number_in : (Table → ℕ) → Result Table → ℕ
-number_in of (refused cause) = 0
-number_in of (ok t) = of t
+number_in of (Err cause) = 0
+number_in of (Ok t) = of t
 
 unfoldable pub read_in : Result Table → ℤ
-read_in (refused cause) = refused_number cause
-read_in (ok t) = pos 0
+read_in (Err cause) = refused_number cause
+read_in (Ok t) = pos 0
 
 pub record ExportedHead (m : List ℕ) (count switches marks : ℕ) (r : ℤ) : Type 0 where
   pub number : r ≡ read_in (table_in m)
@@ -156,12 +156,12 @@ pub record TellsListed (p : Listed) (kind at size : ℕ) (r : ℤ) : Type 0 wher
   pub long : size ≡ listed_size p
 
 unfoldable pub listed_in : Result Table → Listed → Listed
-listed_in (refused cause) p = Nothing
-listed_in (ok t) p = p
+listed_in (Err cause) p = Nothing
+listed_in (Ok t) p = p
 
 unfoldable pub listed_number_in : Result Table → Listed → ℤ
-listed_number_in (refused cause) p = refused_number cause
-listed_number_in (ok t) p = listed_number p
+listed_number_in (Err cause) p = refused_number cause
+listed_number_in (Ok t) p = listed_number p
 
 pub record ExportedEntry (m : List ℕ) (place kind at size : ℕ) (r : ℤ) : Type 0 where
   pub number : r ≡ listed_number_in (table_in m) (listed m place)

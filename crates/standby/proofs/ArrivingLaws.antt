@@ -1,8 +1,8 @@
 -- Laws of an arrival: its checking order, the change that the words are, what is met, and what a change comes to by its run and number.
+use Rattle.std.specs.Prelude.{Option, None, Some, Ok, Err}
 use Prim.Native.Nat.{ℕ, ◌+◌, ◌≤◌, ◌<◌}
 use mathlib.Core.Path.{◌≡◌, refl, sym, ap, ◌∙◌}
 use mathlib.Core.List.{List}
-use mathlib.Core.Option.{Option, none, some}
 use mathlib.Core.Bool.{Bool, true, false, ◌&&◌, ◌||◌, cond}
 use native.Mathlib.Omega.{arith}
 use lib.ListN.{length, take, drop, length-append}
@@ -11,7 +11,7 @@ use lib.Dec.{leb, ltb, eqb}
 use borrow.Author.Tests.{lt-ltb, le-ltb, ltb-true, ltb-false, le-leb, lt-leb, leb-true, leb-false, eq-eqb, ne_eqb, eqb-true, eqb-false}
 use Rattle.refusals.specs.declared.Refusal.{Refusal}
 use Rattle.refusals.specs.declared.Refusal.TheVariants.{NoTable, MalformedRecord}
-use Rattle.refusals.specs.Refusals.{first_cause, Result, refused, ok, and_then, unless}
+use Rattle.refusals.specs.Refusals.{first_cause, Result, and_then, unless}
 use Rattle.refusals.proofs.CauseLaws.{unless-ok}
 use Rattle.paths.specs.Resolving.{max_path}
 use Rattle.paths.specs.Copying.{begun}
@@ -98,60 +98,60 @@ module _ (s : Numbers) where
 -- ---- the checking order
 
 module _ (m : List ℕ) (s : Numbers) where
-  pub no-standby : holds m ≡ false → standby_in m s ≡ refused NoTable
+  pub no-standby : holds m ≡ false → standby_in m s ≡ Err NoTable
   unfolding standby_in first_cause unless
   no-standby h = rw h
 
-  pub in-conflict : holds m ≡ true → conflict s ≡ true → standby_in m s ≡ refused NoTable
+  pub in-conflict : holds m ≡ true → conflict s ≡ true → standby_in m s ≡ Err NoTable
   unfolding standby_in first_cause unless
   in-conflict h e = rw (h, e)
 
-  pub a-standby : holds m ≡ true → conflict s ≡ false → standby_in m s ≡ ok (table_of m)
+  pub a-standby : holds m ≡ true → conflict s ≡ false → standby_in m s ≡ Ok (table_of m)
   unfolding standby_in first_cause unless
   a-standby h e = rw (h, e)
 
-  standby-table : {t : Table} → standby_in m s ≡ ok t → table_of m ≡ t
+  standby-table : {t : Table} → standby_in m s ≡ Ok t → table_of m ≡ t
   unfolding standby_in
   standby-table e = (unless-ok _ (table_of m) e).1
 
 module _ (m words : List ℕ) (s : Numbers) where
-  pub arrival-no-table : holds m ≡ false → arrival m words s ≡ refused NoTable
+  pub arrival-no-table : holds m ≡ false → arrival m words s ≡ Err NoTable
   unfolding arrival and_then
   arrival-no-table h = rw (no-standby m s h)
 
-  pub arrival-conflict : holds m ≡ true → conflict s ≡ true → arrival m words s ≡ refused NoTable
+  pub arrival-conflict : holds m ≡ true → conflict s ≡ true → arrival m words s ≡ Err NoTable
   unfolding arrival and_then
   arrival-conflict h l = rw (in-conflict m s h l)
 
   module _ (h : holds m ≡ true) (l : conflict s ≡ false) where
-    pub arrival-malformed : read_change words ≡ none → arrival m words s ≡ refused MalformedRecord
+    pub arrival-malformed : read_change words ≡ None → arrival m words s ≡ Err MalformedRecord
     unfolding arrival and_then well_formed
     arrival-malformed e = rw (a-standby m s h l, e)
 
-    pub arrival-taken : {c : Change} → read_change words ≡ some c → arrival m words s ≡ taken (table_of m) m (met s c.run c.number) c
+    pub arrival-taken : {c : Change} → read_change words ≡ Some c → arrival m words s ≡ taken (table_of m) m (met s c.run c.number) c
     unfolding arrival and_then well_formed
     arrival-taken e = rw (a-standby m s h l, e)
 
   -- what holds of every refusal and of the change that the words are, if they are one, holds of the arrival
-  pub arrival-by : (P : Result Left → Type 0) → ((cause : Refusal) → P (refused cause))
-      → ((c : Change) → read_change words ≡ some c → P (taken (table_of m) m (met s c.run c.number) c))
+  pub arrival-by : (P : Result Left → Type 0) → ((cause : Refusal) → P (Err cause))
+      → ((c : Change) → read_change words ≡ Some c → P (taken (table_of m) m (met s c.run c.number) c))
       → P (arrival m words s)
   unfolding arrival and_then well_formed
   arrival-by P stopped goes_on = by-table (standby_in m s) refl
     where
       by-words : (o : Option Change) → read_change words ≡ o → P (and_then (well_formed o) (λ c. taken (table_of m) m (met s c.run c.number) c))
-      by-words none e = stopped MalformedRecord
-      by-words (some c) e = goes_on c e
+      by-words None e = stopped MalformedRecord
+      by-words (Some c) e = goes_on c e
 
       by-table : (r : Result Table) → standby_in m s ≡ r
           → P (and_then r (λ t. and_then (well_formed (read_change words)) (λ c. taken t m (met s c.run c.number) c)))
-      by-table (refused cause) e = stopped cause
-      by-table (ok t) e = rw (sym (standby-table m s e)) (by-words (read_change words) refl)
+      by-table (Err cause) e = stopped cause
+      by-table (Ok t) e = rw (sym (standby-table m s e)) (by-words (read_change words) refl)
 
 -- ---- the change that the words are, by what reading answered
 
 -- an act's path, or no byte, stands at the start of the lent space
-act-again : (act : Act) (space : List ℕ) → act_of (action_of (some act)) (take (length (act_path act)) (begun (act_path act) space)) ≡ some act
+act-again : (act : Act) (space : List ℕ) → act_of (action_of (Some act)) (take (length (act_path act)) (begun (act_path act) space)) ≡ Some act
 unfolding act_of action_of act_path begun
 act-again (insert e) space = rw (take_at e.path _ _ refl)
 act-again (set_switches v) space = refl
@@ -161,13 +161,13 @@ act-again revoke_all space = refl
 -- the words are a change with this run and number, and its act is this action with the path that is the first `size` bytes of the space
 pub record IsChange (words : List ℕ) (run number : ℕ) (action : Action) (size : ℕ) (space : List ℕ) : Type 0 where
   pub act : Act
-  pub read : read_change words ≡ some (change_of run number act)
-  pub acting : act_of action (take size space) ≡ some act
+  pub read : read_change words ≡ Some (change_of run number act)
+  pub acting : act_of action (take size space) ≡ Some act
   pub fitting : fits (act_of action (take size space)) ≡ true
   pub room : size ≤ length space
 
-is-change : (words : List ℕ) (c : Change) (space : List ℕ) → read_change words ≡ some c
-    → IsChange words c.run c.number (action_of (some c.act)) (length (act_path c.act)) (begun (act_path c.act) space)
+is-change : (words : List ℕ) (c : Change) (space : List ℕ) → read_change words ≡ Some c
+    → IsChange words c.run c.number (action_of (Some c.act)) (length (act_path c.act)) (begun (act_path c.act) space)
 unfolding begun fits
 is-change words c space e = record {
   act = c.act;
@@ -178,13 +178,13 @@ is-change words c space e = record {
 }
 
 module _ (words : List ℕ) {space after : List ℕ} {r : Record} (R : ReadsRecord 0 (read_first words) space r after) where
-  pub reads_none : r ≡ answer.Malformed → read_change words ≡ none
+  pub reads_none : r ≡ answer.Malformed → read_change words ≡ None
   unfolding record_answer
   reads_none e = go (read_first words) refl (sym R.answer ∙ e)
     where
-      go : (o : Option (Read Change)) → read_first words ≡ o → record_answer 0 o ≡ answer.Malformed → read_change words ≡ none
-      go none f g = no_record words f
-      go (some d) f g = let z : ◌≡◌ {A = ℕ} 0 1 = cc in absurd (omega arith)
+      go : (o : Option (Read Change)) → read_first words ≡ o → record_answer 0 o ≡ answer.Malformed → read_change words ≡ None
+      go None f g = no_record words f
+      go (Some d) f g = let z : ◌≡◌ {A = ℕ} 0 1 = cc in absurd (omega arith)
 
   module _ {run number size end : ℕ} {action : Action} (e : r ≡ answer.Change run number action size end) where
     -- it ends where the words end
@@ -194,23 +194,23 @@ module _ (words : List ℕ) {space after : List ℕ} {r : Record} (R : ReadsReco
       where
         go : (o : Option (Read Change)) → read_first words ≡ o → answer.Change run number action size end ≡ record_answer 0 o → after ≡ record_into o space
             → IsChange words run number action size after
-        go none f g b = let z : ◌≡◌ {A = ℕ} 0 1 = cc in absurd (omega arith)
-        go (some d) f g b =
+        go None f g b = let z : ◌≡◌ {A = ℕ} 0 1 = cc in absurd (omega arith)
+        go (Some d) f g b =
             let q : run ≡ d.value.run = cc in
             let n : number ≡ d.value.number = cc in
-            let a : action ≡ action_of (some d.value.act) = cc in
+            let a : action ≡ action_of (Some d.value.act) = cc in
             let k : size ≡ length (act_path d.value.act) = cc in
             let i : end ≡ 0 + length (change_words d.value) = cc in
             rw (q, n, a, k, b) (is-change words d.value space (whole-record words d f (omega arith)))
 
     -- words are left over
-    pub reads_more : (end ≡ length words → ⊥) → read_change words ≡ none
+    pub reads_more : (end ≡ length words → ⊥) → read_change words ≡ None
     unfolding record_answer
     reads_more l = go (read_first words) refl (sym e ∙ R.answer)
       where
-        go : (o : Option (Read Change)) → read_first words ≡ o → answer.Change run number action size end ≡ record_answer 0 o → read_change words ≡ none
-        go none f g = no_record words f
-        go (some d) f g =
+        go : (o : Option (Read Change)) → read_first words ≡ o → answer.Change run number action size end ≡ record_answer 0 o → read_change words ≡ None
+        go None f g = no_record words f
+        go (Some d) f g =
             let i : end ≡ 0 + length (change_words d.value) = cc in
             words_left words d f (λ k. l (omega arith))
 
@@ -300,11 +300,11 @@ module _ (m : List ℕ) (s : Numbers) (c : Change) where
   moved-early ne = rw (ne_eqb c.number 1 ne)
 
 module _ (t : Table) (m : List ℕ) (s : Numbers) (c : Change) where
-  pub taken-lower : c.run < s.run → taken t m s c ≡ ok (stays Repeat m s)
+  pub taken-lower : c.run < s.run → taken t m s c ≡ Ok (stays Repeat m s)
   unfolding taken
   taken-lower l = rw (lt-ltb c.run s.run l)
 
-  pub taken-higher : s.run < c.run → taken t m s c ≡ ok (moved m s c)
+  pub taken-higher : s.run < c.run → taken t m s c ≡ Ok (moved m s c)
   unfolding taken
   taken-higher l = rw (le-ltb c.run s.run (omega arith), lt-ltb s.run c.run l)
 
@@ -313,11 +313,11 @@ module _ (t : Table) (m : List ℕ) (s : Numbers) (c : Change) where
     unfolding taken
     taken-run = rw (le-ltb c.run s.run (omega arith), le-ltb s.run c.run (omega arith))
 
-    pub taken-repeat : c.number ≤ s.n → taken t m s c ≡ ok (stays Repeat m s)
+    pub taken-repeat : c.number ≤ s.n → taken t m s c ≡ Ok (stays Repeat m s)
     unfolding in_run
     taken-repeat l = taken-run ∙ rw (le-leb c.number s.n l)
 
-    pub taken-early : s.n + 1 < c.number → taken t m s c ≡ ok (stays Early m s)
+    pub taken-early : s.n + 1 < c.number → taken t m s c ≡ Ok (stays Early m s)
     unfolding in_run
     taken-early l = taken-run ∙ rw (lt-leb c.number s.n (omega arith), ne_eqb c.number (s.n + 1) (λ e. omega arith))
 
@@ -325,21 +325,21 @@ module _ (t : Table) (m : List ℕ) (s : Numbers) (c : Change) where
     unfolding in_run
     taken_next e = taken-run ∙ rw (lt-leb c.number s.n (omega arith), eq-eqb c.number (s.n + 1) e)
 
-  pub applied-room : room_cause t (some c.act) ≡ none → applied t m s c ≡ ok (applies m s c.act)
+  pub applied-room : room_cause t (Some c.act) ≡ None → applied t m s c ≡ Ok (applies m s c.act)
   unfolding applied with_room unless and_then
   applied-room e = rw e
 
-  pub applied-full : {cause : Refusal} → room_cause t (some c.act) ≡ some cause → applied t m s c ≡ refused cause
+  pub applied-full : {cause : Refusal} → room_cause t (Some c.act) ≡ Some cause → applied t m s c ≡ Err cause
   unfolding applied with_room unless and_then
   applied-full e = rw e
 
 -- the ways that there are
 pub data Taking (t : Table) (m : List ℕ) (s : Numbers) (c : Change) : Result Left → Type 0 where
-  lower : c.run < s.run → Taking t m s c (ok (stays Repeat m s))
-  waits : s.run < c.run → (c.number ≡ 1 → ⊥) → Taking t m s c (ok (stays Early m s))
-  comes : s.run < c.run → c.number ≡ 1 → Taking t m s c (ok (moves m s c))
-  repeats : c.run ≡ s.run → c.number ≤ s.n → Taking t m s c (ok (stays Repeat m s))
-  early : c.run ≡ s.run → s.n + 1 < c.number → Taking t m s c (ok (stays Early m s))
+  lower : c.run < s.run → Taking t m s c (Ok (stays Repeat m s))
+  waits : s.run < c.run → (c.number ≡ 1 → ⊥) → Taking t m s c (Ok (stays Early m s))
+  comes : s.run < c.run → c.number ≡ 1 → Taking t m s c (Ok (moves m s c))
+  repeats : c.run ≡ s.run → c.number ≤ s.n → Taking t m s c (Ok (stays Repeat m s))
+  early : c.run ≡ s.run → s.n + 1 < c.number → Taking t m s c (Ok (stays Early m s))
   next : c.run ≡ s.run → c.number ≡ s.n + 1 → Taking t m s c (applied t m s c)
 
 pub taking : (t : Table) (m : List ℕ) (s : Numbers) (c : Change) → Taking t m s c (taken t m s c)
@@ -365,12 +365,12 @@ taking t m s c = by-run (ltb c.run s.run) refl (ltb s.run c.run) refl
 -- ---- by the promise
 
 module _ {m : List ℕ} {s : Numbers} where
-  pub comes-refused : {call : Result Left} {cause : Refusal} {r : Arrived} → call ≡ refused cause → r ≡ unchanged cause s
+  pub comes-refused : {call : Result Left} {cause : Refusal} {r : Arrived} → call ≡ Err cause → r ≡ unchanged cause s
       → Comes call m s m r.numbers r.answer
   unfolding left_by
   comes-refused e f = rw (e, f) (record { answer = refl; memory = refl; numbers = refl })
 
-  pub comes-left : {call : Result Left} {left : Left} {m' : List ℕ} {s' : Numbers} {r : Arrival} → call ≡ ok left
+  pub comes-left : {call : Result Left} {left : Left} {m' : List ℕ} {s' : Numbers} {r : Arrival} → call ≡ Ok left
       → r ≡ left.answer → m' ≡ left.memory → s' ≡ left.numbers → Comes call m s m' s' r
   unfolding left_by
   comes-left e f g h = rw e (record { answer = f; memory = g; numbers = h })
@@ -393,7 +393,7 @@ module _ {m : List ℕ} (h : holds m ≡ true) {clear : List ℕ} {o : Outcome} 
 
 module _ (m : List ℕ) (s : Numbers) (run number : ℕ) (act : Option Act) where
   pub moves-early : (number ≡ 1 → ⊥) → Moves run number act m s m (record { answer = Early; numbers = s })
-  moves-early ne a e = comes-left (ap ok (moved-early m s (change_of run number a) ne)) refl refl refl
+  moves-early ne a e = comes-left (ap Ok (moved-early m s (change_of run number a) ne)) refl refl refl
 
   pub moves-first : {clear m' : List ℕ} {o r : Outcome} {n : ℕ} → number ≡ 1 → n ≡ 1 → holds m ≡ true → fits act ≡ true → MakesFresh m clear o
       → CarriesOut act clear m' r
@@ -402,7 +402,7 @@ module _ (m : List ℕ) (s : Numbers) (run number : ℕ) (act : Option Act) wher
   moves-first {clear} {m'} first one h fit F C a e =
       let room = fresh-room a (rw e at fit) in
       let done : m' ≡ do_act (put fresh m) a = C.memory ∙ rw (e, cleared-table h F, room, cleared h F) in
-      comes-left (ap ok (moved-first m s (change_of run number a) first)) refl done (rw one)
+      comes-left (ap Ok (moved-first m s (change_of run number a) first)) refl done (rw one)
 
 -- a change of any run; `after` are the numbers once it is met
 module _ (m : List ℕ) (s : Numbers) (run number : ℕ) (act : Option Act) {after : Numbers} (M : after ≡ met s run number) where

@@ -1,5 +1,6 @@
 -- What an arrival keeps, refused or not: memory that held a table holds one, numbers that agreed agree, and the arrival is the same wherever the table stands.
 -- What it promises settles every outcome.
+use Rattle.std.specs.Prelude.{Ok, Err}
 use Prim.Native.Nat.{ℕ, ◌+◌}
 use mathlib.Core.Path.{◌≡◌, refl, sym, ◌∙◌}
 use mathlib.Core.List.{List}
@@ -7,7 +8,7 @@ use mathlib.Core.Bool.{Bool, true, false, cond}
 use native.Mathlib.Omega.{arith}
 use lib.Dec.{leb, ltb, eqb}
 use Rattle.refusals.specs.declared.Refusal.{Refusal}
-use Rattle.refusals.specs.Refusals.{Result, refused, ok, and_then}
+use Rattle.refusals.specs.Refusals.{Result, and_then}
 use Rattle.refusals.proofs.CauseLaws.{unless-ok}
 use Rattle.table.specs.Tables.{Table, fresh, is_table}
 use Rattle.table.specs.Acts.{Act, is_act, apply_act, act_overflows}
@@ -52,7 +53,7 @@ KeptBy : List ℕ → Numbers → Result Left → Type 0
 KeptBy m s r = Kept s (left_by r m s)
 
 module _ (m : List ℕ) (s : Numbers) (h : holds m ≡ true) where
-  kept-refused : (cause : Refusal) → KeptBy m s (refused cause)
+  kept-refused : (cause : Refusal) → KeptBy m s (Err cause)
   unfolding KeptBy left_by
   kept-refused cause = record { holding = h; agreeing = λ A. A }
 
@@ -69,15 +70,15 @@ module _ (m : List ℕ) (s : Numbers) (h : holds m ≡ true) where
     unfolding after
     M = meets s c.run c.number
 
-    kept-stays : (a : Arrival) → KeptBy m s (ok (stays a m after))
+    kept-stays : (a : Arrival) → KeptBy m s (Ok (stays a m after))
     unfolding KeptBy left_by
     kept-stays a = record { holding = h; agreeing = stays-agrees M }
 
     kept-applied : c.run ≡ after.run → c.number ≡ after.n + 1 → (r : Result Act) → with_room (table_of m) c.act ≡ r
-        → KeptBy m s (and_then r (λ act. ok (applies m after act)))
+        → KeptBy m s (and_then r (λ act. Ok (applies m after act)))
     unfolding KeptBy left_by and_then with_room
-    kept-applied q k (refused cause) e = record { holding = h; agreeing = λ A. A }
-    kept-applied q k (ok act) e =
+    kept-applied q k (Err cause) e = record { holding = h; agreeing = λ A. A }
+    kept-applied q k (Ok act) e =
         let u = unless-ok _ c.act e in
         let is : c.act ≡ act = u.1 in
         record {
@@ -98,7 +99,7 @@ module _ (m : List ℕ) (s : Numbers) (h : holds m ≡ true) where
 
   -- an image
   module _ (i : Image) (v : is_table i.table ≡ true) where
-    loaded-kept : {left : Left} → Loading m (met s i.run i.number) i left → KeptBy m s (ok left)
+    loaded-kept : {left : Left} → Loading m (met s i.run i.number) i left → KeptBy m s (Ok left)
     unfolding KeptBy left_by takes
     loaded-kept (is-taken l k) = record { holding = holds-put i.table m v (long_of m h); agreeing = λ A. comes-agrees (meets s i.run i.number) refl refl }
     loaded-kept (passed l k) = record { holding = h; agreeing = stays-agrees (meets s i.run i.number) }
@@ -140,8 +141,8 @@ pub record Same (a b : Left) : Type 0 where
 
 module _ (m n : List ℕ) (h : holds m ≡ true) (k : holds n ≡ true) (e : table_of m ≡ table_of n) (s : Numbers) where
   pub data Alike : Result Left → Result Left → Type 0 where
-    stop : {cause : Refusal} → Alike (refused cause) (refused cause)
-    leave : {a b : Left} → Same a b → Alike (ok a) (ok b)
+    stop : {cause : Refusal} → Alike (Err cause) (Err cause)
+    leave : {a b : Left} → Same a b → Alike (Ok a) (Ok b)
 
   alike-if : (b : Bool) {x y x' y' : Result Left} → Alike x y → Alike x' y' → Alike (cond b x x') (cond b y y')
   alike-if true A B = A
@@ -153,8 +154,8 @@ module _ (m n : List ℕ) (h : holds m ≡ true) (k : holds n ≡ true) (e : tab
 
   alike-step : {A : Type 0} (r : Result A) {f g : A → Result Left} → ((x : A) → Alike (f x) (g x)) → Alike (and_then r f) (and_then r g)
   unfolding and_then
-  alike-step (refused cause) F = stop
-  alike-step (ok x) F = F x
+  alike-step (Err cause) F = stop
+  alike-step (Ok x) F = F x
 
   same-stays : (a : Arrival) (t : Numbers) → Same (stays a m t) (stays a n t)
   same-stays a t = record { answer = refl; table = e; numbers = refl }

@@ -1,15 +1,15 @@
 -- Laws of an image's arrival: its checking order, what an image comes to, and that loading gives the written table.
+use Rattle.std.specs.Prelude.{Option, None, Some, Ok, Err}
 use Prim.Native.Nat.{ℕ, ◌≤◌, ◌<◌}
 use mathlib.Core.Path.{◌≡◌, refl, ap, ◌∙◌}
 use mathlib.Core.List.{List}
-use mathlib.Core.Option.{Option, none, some}
 use mathlib.Core.Bool.{Bool, true, false, cond}
 use native.Mathlib.Omega.{arith}
 use lib.Dec.{ltb, eqb}
 use borrow.Author.Tests.{lt-ltb, le-ltb, ltb-true, ltb-false, eq-eqb, ne_eqb, eqb-true, eqb-false}
 use Rattle.refusals.specs.declared.Refusal.{Refusal}
 use Rattle.refusals.specs.declared.Refusal.TheVariants.{NoTable, MalformedImage}
-use Rattle.refusals.specs.Refusals.{Result, refused, ok, and_then}
+use Rattle.refusals.specs.Refusals.{Result, and_then}
 use Rattle.table.specs.Tables.{Table}
 use Rattle.table.specs.Memory.{table_of, holds}
 use Rattle.table.proofs.Puts.{table_of-put}
@@ -27,37 +27,37 @@ use Rattle.standby.proofs.ArrivingLaws.{no-standby, in-conflict, a-standby, meet
 -- ---- the checking order
 
 module _ (m words : List ℕ) (s : Numbers) where
-  pub loading-no-table : holds m ≡ false → loading m words s ≡ refused NoTable
+  pub loading-no-table : holds m ≡ false → loading m words s ≡ Err NoTable
   unfolding loading and_then
   loading-no-table h = rw (no-standby m s h)
 
-  pub loading-conflict : holds m ≡ true → conflict s ≡ true → loading m words s ≡ refused NoTable
+  pub loading-conflict : holds m ≡ true → conflict s ≡ true → loading m words s ≡ Err NoTable
   unfolding loading and_then
   loading-conflict h l = rw (in-conflict m s h l)
 
   module _ (h : holds m ≡ true) (l : conflict s ≡ false) where
-    pub loading-malformed : read_image words ≡ none → loading m words s ≡ refused MalformedImage
+    pub loading-malformed : read_image words ≡ None → loading m words s ≡ Err MalformedImage
     unfolding loading and_then is_image
     loading-malformed e = rw (a-standby m s h l, e)
 
-    pub loading-image : {i : Image} → read_image words ≡ some i → loading m words s ≡ ok (loaded m (met s i.run i.number) i)
+    pub loading-image : {i : Image} → read_image words ≡ Some i → loading m words s ≡ Ok (loaded m (met s i.run i.number) i)
     unfolding loading and_then is_image
     loading-image e = rw (a-standby m s h l, e)
 
   -- what holds of every refusal and of the image that the words are, if they are one, holds of the arrival
-  pub loading-by : (P : Result Left → Type 0) → ((cause : Refusal) → P (refused cause))
-      → ((i : Image) → read_image words ≡ some i → P (ok (loaded m (met s i.run i.number) i)))
+  pub loading-by : (P : Result Left → Type 0) → ((cause : Refusal) → P (Err cause))
+      → ((i : Image) → read_image words ≡ Some i → P (Ok (loaded m (met s i.run i.number) i)))
       → P (loading m words s)
   unfolding loading and_then is_image
   loading-by P stopped goes_on = by-table (standby_in m s)
     where
-      by-words : (o : Option Image) → read_image words ≡ o → P (and_then (is_image o) (λ i. ok (loaded m (met s i.run i.number) i)))
-      by-words none e = stopped MalformedImage
-      by-words (some i) e = goes_on i e
+      by-words : (o : Option Image) → read_image words ≡ o → P (and_then (is_image o) (λ i. Ok (loaded m (met s i.run i.number) i)))
+      by-words None e = stopped MalformedImage
+      by-words (Some i) e = goes_on i e
 
-      by-table : (r : Result Table) → P (and_then r (λ t. and_then (is_image (read_image words)) (λ i. ok (loaded m (met s i.run i.number) i))))
-      by-table (refused cause) = stopped cause
-      by-table (ok t) = by-words (read_image words) refl
+      by-table : (r : Result Table) → P (and_then r (λ t. and_then (is_image (read_image words)) (λ i. Ok (loaded m (met s i.run i.number) i))))
+      by-table (Err cause) = stopped cause
+      by-table (Ok t) = by-words (read_image words) refl
 
 -- ---- what an image comes to
 
@@ -102,7 +102,7 @@ loading-as m s i = by-run (ltb s.run i.run) refl (eqb s.run i.run) refl
 
 module _ (m words : List ℕ) (s : Numbers) {after : Numbers} {run number switches marks count : ℕ} (h : holds m ≡ true) (l : conflict s ≡ false)
     (T : ImageTold (read_image words) run number switches marks count) (M : after ≡ met s run number) where
-  told-loading : loading m words s ≡ ok (loaded m after T.read.value)
+  told-loading : loading m words s ≡ Ok (loaded m after T.read.value)
   told-loading = loading-image m words s h l T.read.is ∙ rw (M, T.same-run, T.same_number)
 
   pub loads-repeat : is_taken after run number ≡ false → Loads m words s m after Repeat
@@ -113,7 +113,7 @@ module _ (m words : List ℕ) (s : Numbers) {after : Numbers} {run number switch
       → Loads m words s m' (record { n = number; h = after.h; run = run; highest = after.highest }) Taken
   unfolding loaded takes loaded_by
   loads-taken k e =
-      let call : loading m words s ≡ ok (takes m after T.read.value) = told-loading ∙ rw (← T.same-run, ← T.same_number, k) in
+      let call : loading m words s ≡ Ok (takes m after T.read.value) = told-loading ∙ rw (← T.same-run, ← T.same_number, k) in
       comes-left call refl (e ∙ rw T.read.is) (rw (T.same-run, T.same_number))
 
 -- ---- loading gives the written table
@@ -125,7 +125,7 @@ pub load-written : {m : List ℕ} {s : Numbers} {i : Image} {m' : List ℕ} {s' 
 unfolding loaded takes left_by is_taken
 load-written {m} {s} {i} h l W k L =
     let M = meets s i.run i.number in
-    let e : loading m (image_words i) s ≡ ok (takes m (met s i.run i.number) i) =
+    let e : loading m (image_words i) s ≡ Ok (takes m (met s i.run i.number) i) =
     loading-image m (image_words i) s h l (image-read W) ∙ rw (M.same-run, M.same-n, k) in (
       L.answer ∙ rw e,
       ap table_of L.memory ∙ rw e (table_of-put i.table m),

@@ -1,9 +1,8 @@
 -- The arrival of a record at the standby: its checking order, its answer, and every lent byte and number after it. Scope, "Handover, at the top", "A call comes
 -- in" (for a record 11 comes after 1, and 8 last, only at number n + 1), and "A main that starts over".
-use Rattle.std.specs.Prelude.{ℕ, ◌+◌, ◌≡◌, List, [], ◌∷◌, Bool, ◌&&◌, ◌||◌, not, cond, leb, ltb, eqb}
-use Rattle.std.proofs.Math.Option.{Option, none, some}
+use Rattle.std.specs.Prelude.{ℕ, ◌+◌, ◌≡◌, List, [], ◌∷◌, Bool, ◌&&◌, ◌||◌, not, cond, leb, ltb, eqb, Option, None, Some, Ok, Err}
 use Rattle.refusals.specs.declared.Refusal.TheVariants.{NoTable, MalformedRecord}
-use Rattle.refusals.specs.Refusals.{when, first_cause, Result, refused, ok, and_then, unless}
+use Rattle.refusals.specs.Refusals.{when, first_cause, Result, and_then, unless}
 use Rattle.table.specs.Tables.{Table, fresh}
 use Rattle.table.specs.Acts.{Act}
 use Rattle.table.specs.Memory.{table_of, holds, put, do_act}
@@ -25,8 +24,8 @@ standby_in m s = unless (first_cause (when (not (holds m)) NoTable ∷ when (con
 
 -- 11: the change that the lent words are
 unfoldable pub well_formed : Option Change → Result Change
-well_formed none = refused MalformedRecord
-well_formed (some c) = ok c
+well_formed None = Err MalformedRecord
+well_formed (Some c) = Ok c
 
 -- ---- what was met: it follows every record and image that is not refused
 
@@ -57,13 +56,13 @@ applies m s act = record { answer = Applied; memory = do_act m act; numbers = re
 
 -- number n + 1 of the standby's run is applied, unless its act has no room (8)
 unfoldable pub applied : Table → List ℕ → Numbers → Change → Result Left
-applied t m s c = and_then (with_room t c.act) (λ act. ok (applies m s act))
+applied t m s c = and_then (with_room t c.act) (λ act. Ok (applies m s act))
 
 -- a change of the standby's run: n or below answers Repeat, above n + 1 Early
 unfoldable pub in_run : Table → List ℕ → Numbers → Change → Result Left
 in_run t m s c =
-    cond (leb c.number s.n) (ok (stays Repeat m s))
-    (cond (eqb c.number (s.n + 1)) (applied t m s c) (ok (stays Early m s)))
+    cond (leb c.number s.n) (Ok (stays Repeat m s))
+    (cond (eqb c.number (s.n + 1)) (applied t m s c) (Ok (stays Early m s)))
 
 -- the standby moves to the run of a change 1, first clearing its table and n. A fresh table has room for every act, so there is no 8: `fresh-room`
 abbrev pub moves : List ℕ → Numbers → Change → Left
@@ -76,8 +75,8 @@ moved m s c = cond (eqb c.number 1) (moves m s c) (stays Early m s)
 -- t is the table in memory m, and s are the numbers once the change is met; a change of a lower run answers Repeat
 unfoldable pub taken : Table → List ℕ → Numbers → Change → Result Left
 taken t m s c =
-    cond (ltb c.run s.run) (ok (stays Repeat m s))
-    (cond (ltb s.run c.run) (ok (moved m s c)) (in_run t m s c))
+    cond (ltb c.run s.run) (Ok (stays Repeat m s))
+    (cond (ltb s.run c.run) (Ok (moved m s c)) (in_run t m s c))
 
 -- ---- the arrival
 
@@ -87,8 +86,8 @@ arrival m words s = and_then (standby_in m s) (λ t. and_then (well_formed (read
 
 -- a refused arrival leaves memory m and the numbers s
 unfoldable pub left_by : Result Left → List ℕ → Numbers → Left
-left_by (refused cause) m s = stays (Refused cause) m s
-left_by (ok r) m s = r
+left_by (Err cause) m s = stays (Refused cause) m s
+left_by (Ok r) m s = r
 
 -- memory m and the numbers s become m' and s'
 pub record Comes (call : Result Left) (m : List ℕ) (s : Numbers) (m' : List ℕ) (s' : Numbers) (r : Arrival) : Type 0 where

@@ -1,9 +1,8 @@
 -- The arrival of an image at the standby: its checking order, its answer, and every lent byte and number after it. Scope, "A table for a standby that
 -- joins late" (13 stands in the place of 11, after 1), and "A main that starts over".
-use Rattle.std.specs.Prelude.{ℕ, List, Bool, ◌&&◌, ◌||◌, cond, ltb, eqb}
-use Rattle.std.proofs.Math.Option.{Option, none, some}
+use Rattle.std.specs.Prelude.{ℕ, List, Bool, ◌&&◌, ◌||◌, cond, ltb, eqb, Option, None, Some, Ok, Err}
 use Rattle.refusals.specs.declared.Refusal.TheVariants.{MalformedImage}
-use Rattle.refusals.specs.Refusals.{Result, refused, ok, and_then}
+use Rattle.refusals.specs.Refusals.{Result, and_then}
 use Rattle.table.specs.Memory.{put}
 use Rattle.images.specs.Images.{Image, read_image}
 use Rattle.standby.specs.declared.Numbers.{Numbers}
@@ -13,8 +12,8 @@ use Rattle.standby.specs.Arriving.{standby_in, met, Left, stays, Comes}
 
 -- 13: the image that the lent words are
 unfoldable pub is_image : Option Image → Result Image
-is_image none = refused MalformedImage
-is_image (some i) = ok i
+is_image None = Err MalformedImage
+is_image (Some i) = Ok i
 
 -- an image of a higher run is taken, even if its number is 0; one of the standby's run where n is below its number
 unfoldable pub is_taken : Numbers → ℕ → ℕ → Bool
@@ -34,7 +33,7 @@ loaded m s i = cond (is_taken s i.run i.number) (takes m s i) (stays Repeat m s)
 
 -- m is the standby's memory, s its numbers
 unfoldable pub loading : List ℕ → List ℕ → Numbers → Result Left
-loading m words s = and_then (standby_in m s) (λ t. and_then (is_image (read_image words)) (λ i. ok (loaded m (met s i.run i.number) i)))
+loading m words s = and_then (standby_in m s) (λ t. and_then (is_image (read_image words)) (λ i. Ok (loaded m (met s i.run i.number) i)))
 
 abbrev pub Loads : List ℕ → List ℕ → Numbers → List ℕ → Numbers → Arrival → Type 0
 Loads m words s m' s' r = Comes (loading m words s) m s m' s' r

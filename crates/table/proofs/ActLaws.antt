@@ -1,8 +1,8 @@
 -- Laws of acts: a table stays one, what memory has that acts left, and what the answer of carrying one out tells. Crates above cite these.
+use Rattle.std.specs.Prelude.{Option, None, Some}
 use Prim.Native.Nat.{ℕ, suc, ◌+◌, ◌≤◌}
 use mathlib.Core.Path.{◌≡◌, refl, sym, ap, ◌∙◌}
 use mathlib.Core.List.{List, [], ◌∷◌, ◌++◌}
-use mathlib.Core.Option.{Option, none, some}
 use mathlib.Core.Bool.{Bool, true, false, ◌||◌, false≢true}
 use native.Mathlib.Omega.{arith}
 use lib.ListN.{length}
@@ -197,23 +197,23 @@ acted-append {m} a b A B = record {
 -- ---- what the answer of carrying an act out tells
 
 -- where there is no cause, the act has room
-pub no-cause-room : (t : Table) (a : Act) → room_cause t (some a) ≡ none → act_overflows t a ≡ false
+pub no-cause-room : (t : Table) (a : Act) → room_cause t (Some a) ≡ None → act_overflows t a ≡ false
 unfolding room_cause
 no-cause-room t a e = no-cause-head (act_overflows t a) TableFull _ e
 
-pub outcome-done : (cause : Option Refusal) → outcome_of cause ≡ Done → cause ≡ none
+pub outcome-done : (cause : Option Refusal) → outcome_of cause ≡ Done → cause ≡ None
 unfolding outcome_of
-outcome-done none e = refl
-outcome-done (some cause) e = let z : ◌≡◌ {A = ℕ} 0 1 = cc in absurd (omega arith)
+outcome-done None e = refl
+outcome-done (Some cause) e = let z : ◌≡◌ {A = ℕ} 0 1 = cc in absurd (omega arith)
 
-pub outcome-refused : (cause : Option Refusal) {by : Refusal} → outcome_of cause ≡ Refused by → cause ≡ some by
+pub outcome-refused : (cause : Option Refusal) {by : Refusal} → outcome_of cause ≡ Refused by → cause ≡ Some by
 unfolding outcome_of
-outcome-refused none e = let z : ◌≡◌ {A = ℕ} 0 1 = cc in absurd (omega arith)
-outcome-refused (some cause) e = cc
+outcome-refused None e = let z : ◌≡◌ {A = ℕ} 0 1 = cc in absurd (omega arith)
+outcome-refused (Some cause) e = cc
 
 module _ {act : Option Act} {m m' : List ℕ} {r : Outcome} (C : CarriesOut act m m' r) where
-  pub carried-done : r ≡ Done → room_cause (table_of m) act ≡ none
+  pub carried-done : r ≡ Done → room_cause (table_of m) act ≡ None
   carried-done e = outcome-done _ (sym C.outcome ∙ e)
 
-  pub carried-refused : {by : Refusal} → r ≡ Refused by → room_cause (table_of m) act ≡ some by
+  pub carried-refused : {by : Refusal} → r ≡ Refused by → room_cause (table_of m) act ≡ Some by
   carried-refused e = outcome-refused _ (sym C.outcome ∙ e)

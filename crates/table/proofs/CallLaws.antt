@@ -1,4 +1,5 @@
 -- Laws of the steps of a checking order on a table, and of the call that makes a fresh one.
+use Rattle.std.specs.Prelude.{Ok, Err}
 use Prim.Native.Nat.{ℕ, ◌≤◌, ◌<◌}
 use mathlib.Core.Path.{◌≡◌, ◌∙◌}
 use mathlib.Core.List.{List, [], ◌∷◌}
@@ -6,7 +7,7 @@ use mathlib.Core.Bool.{true, false}
 use lib.ListN.{length, set}
 use borrow.Author.Tests.{lt-ltb, le-ltb}
 use Rattle.refusals.specs.declared.Refusal.TheVariants.{NoTable}
-use Rattle.refusals.specs.Refusals.{first_cause, Result, refused, ok, and_then, unless, cause_of}
+use Rattle.refusals.specs.Refusals.{first_cause, Result, and_then, unless, cause_of}
 use Rattle.refusals.proofs.CauseLaws.{Hands}
 use Rattle.paths.specs.Copying.{overwrite}
 use Rattle.table.specs.declared.Outcome.{Outcome}
@@ -20,11 +21,11 @@ use Rattle.table.proofs.Overwrites.{over-sets}
 -- ---- steps of the checking order
 
 module _ (m : List ℕ) where
-  pub no_table : holds m ≡ false → table_in m ≡ refused NoTable
+  pub no_table : holds m ≡ false → table_in m ≡ Err NoTable
   unfolding table_in first_cause unless
   no_table h = rw h
 
-  pub a-table : holds m ≡ true → table_in m ≡ ok (table_of m)
+  pub a-table : holds m ≡ true → table_in m ≡ Ok (table_of m)
   unfolding table_in first_cause unless
   a-table h = rw h
 
@@ -33,11 +34,11 @@ module _ (m : List ℕ) where
   unfolding and_then
   hands-table f h H = rw (a-table h) H
 
-  pub fresh-short : length m < table_bytes → fresh_in m ≡ refused NoTable
+  pub fresh-short : length m < table_bytes → fresh_in m ≡ Err NoTable
   unfolding fresh_in first_cause unless
   fresh-short h = rw (lt-ltb _ _ h)
 
-  pub fresh-long : table_bytes ≤ length m → fresh_in m ≡ ok fresh
+  pub fresh-long : table_bytes ≤ length m → fresh_in m ≡ Ok fresh
   unfolding fresh_in first_cause unless
   fresh-long h = rw (le-ltb _ _ h)
 

@@ -1,11 +1,12 @@
 -- What acts keep: memory that held a table holds one, no mark is cleared, and acts leave the same table wherever it stands.
+use Rattle.std.specs.Prelude.{Ok, Err}
 use Prim.Native.Nat.{ℕ}
 use mathlib.Core.Path.{◌≡◌, refl, sym, ap, ◌∙◌}
 use mathlib.Core.List.{List, [], ◌∷◌}
 use mathlib.Core.Bool.{Bool, true, false, or-true}
 use lib.Dec.{eqb}
 use Rattle.refusals.specs.declared.Refusal.{Refusal}
-use Rattle.refusals.specs.Refusals.{Result, refused, ok, and_then}
+use Rattle.refusals.specs.Refusals.{Result, and_then}
 use Rattle.table.specs.declared.Dropped.TheVariants.{Prefixes, All}
 use Rattle.table.specs.declared.Kind.{Kind}
 use Rattle.table.specs.declared.Kind.TheVariants.{D, P, I}
@@ -78,17 +79,17 @@ acted-keeps {m} {acts} h A =
 -- ---- what a checking order makes can be carried out
 
 -- a step of the checking order that is refused makes no act
-pub step-acted : {A B : Type 0} (acts : Result B → List Act) → ((cause : Refusal) → acts (refused cause) ≡ []) → (m : List ℕ) (a : Result A) (f : A → Result B)
-    → holds m ≡ true → ((x : A) → a ≡ ok x → Acted m (acts (f x))) → Acted m (acts (and_then a f))
+pub step-acted : {A B : Type 0} (acts : Result B → List Act) → ((cause : Refusal) → acts (Err cause) ≡ []) → (m : List ℕ) (a : Result A) (f : A → Result B)
+    → holds m ≡ true → ((x : A) → a ≡ Ok x → Acted m (acts (f x))) → Acted m (acts (and_then a f))
 unfolding and_then
-step-acted acts n m (refused cause) f h k = rw (n cause) (acted-none m h)
-step-acted acts n m (ok x) f h k = k x refl
+step-acted acts n m (Err cause) f h k = rw (n cause) (acted-none m h)
+step-acted acts n m (Ok x) f h k = k x refl
 
 -- ---- wherever the table stands: memory of another length, or with other bytes behind it
 
 module _ (m n : List ℕ) (h : holds m ≡ true) (k : holds n ≡ true) (e : table_of m ≡ table_of n) where
   pub same-table : table_in m ≡ table_in n
-  same-table = a-table m h ∙ ap ok e ∙ sym (a-table n k)
+  same-table = a-table m h ∙ ap Ok e ∙ sym (a-table n k)
 
   -- and the same acts leave the same table
   pub same_after : (acts : List Act) → Acted m acts → Acted n acts → table_of (do_acts m acts) ≡ table_of (do_acts n acts)

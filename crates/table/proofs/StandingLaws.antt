@@ -1,4 +1,5 @@
 -- A table that is known: acts done in turn on memory that holds it, and memory made for it. Concrete runs of calls rest on these.
+use Rattle.std.specs.Prelude.{Ok}
 use Prim.Native.Nat.{ℕ}
 use mathlib.Core.Path.{◌≡◌, ap, ◌∙◌}
 use mathlib.Core.List.{List, [], ◌∷◌}
@@ -6,7 +7,6 @@ use mathlib.Core.Bool.{Bool, true, ◌&&◌, not}
 use native.Mathlib.Omega.{arith}
 use lib.ListN.{length, replicate, length-replicate}
 use borrow.Author.Tests.{not-true}
-use Rattle.refusals.specs.Refusals.{ok}
 use Rattle.paths.proofs.ComponentLaws.{and_left, and_right}
 use Rattle.table.specs.Tables.{Table, is_table}
 use Rattle.table.specs.Acts.{Act, is_act, act_overflows, apply_act, apply_acts}
@@ -40,8 +40,8 @@ stands-then {m} S new f =
     let A = acted-all m new S.holding (rw S.table f) in
     record { holding = A.holding; table = rw (← S.table) A.table }
 
-pub table-in : {m : List ℕ} {t : Table} → Stands m t → table_in m ≡ ok t
-table-in {m} S = a-table m S.holding ∙ ap ok S.table
+pub table-in : {m : List ℕ} {t : Table} → Stands m t → table_in m ≡ Ok t
+table-in {m} S = a-table m S.holding ∙ ap Ok S.table
 
 -- ---- memory and spaces
 

@@ -1,8 +1,7 @@
 -- Steps of the checking order on a table, and the call that makes a fresh one. Scope, "A call comes in".
-use Rattle.std.specs.Prelude.{ℕ, ◌≡◌, List, [], ◌∷◌, not, length, ltb}
-use Rattle.std.proofs.Math.Option.{some}
+use Rattle.std.specs.Prelude.{ℕ, ◌≡◌, List, [], ◌∷◌, not, length, ltb, Some, Ok, Err}
 use Rattle.refusals.specs.declared.Refusal.TheVariants.{NoTable}
-use Rattle.refusals.specs.Refusals.{when, first_cause, Result, refused, ok, unless, cause_of}
+use Rattle.refusals.specs.Refusals.{when, first_cause, Result, unless, cause_of}
 use Rattle.table.specs.declared.Outcome.{Outcome}
 use Rattle.table.specs.Tables.{Table, fresh}
 use Rattle.table.specs.Acts.{Act}
@@ -21,13 +20,13 @@ fresh_in m = unless (first_cause (when (ltb (length m) table_bytes) NoTable ∷ 
 
 -- 8: an act on the table t
 unfoldable pub with_room : Table → Act → Result Act
-with_room t act = unless (room_cause t (some act)) act
+with_room t act = unless (room_cause t (Some act)) act
 
 -- ---- a fresh table
 
 unfoldable pub put_in : Result Table → List ℕ → List ℕ
-put_in (refused cause) m = m
-put_in (ok t) m = put t m
+put_in (Err cause) m = m
+put_in (Ok t) m = put t m
 
 pub record MakesFresh (m m' : List ℕ) (r : Outcome) : Type 0 where
   pub outcome : r ≡ outcome_of (cause_of (fresh_in m))

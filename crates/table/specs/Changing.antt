@@ -1,6 +1,5 @@
 -- What the functions that change a table ensure of memory, step by step; `Carrying.antt` has what they come to.
-use Rattle.std.specs.Prelude.{ℕ, ◌≡◌, List, Bool, false, not, cond}
-use Rattle.std.proofs.Math.Option.{Option, none, some}
+use Rattle.std.specs.Prelude.{ℕ, ◌≡◌, List, Bool, false, not, cond, Option, None, Some}
 use Rattle.table.specs.Entries.{Entry}
 use Rattle.table.specs.Placing.{search}
 use Rattle.table.specs.Tables.{Table}
@@ -21,10 +20,10 @@ pub record InsertsEntry (m m' : List ℕ) (e : Entry) (done : Bool) : Type 0 whe
 -- ---- any act, if there is one
 
 unfoldable pub may_overflow : Table → Option Act → Bool
-may_overflow t none = false
-may_overflow t (some act) = act_overflows t act
+may_overflow t None = false
+may_overflow t (Some act) = act_overflows t act
 
 -- memory m is m' after the act: false, and nothing changes, where it overflows
 pub record DoesAct (act : Option Act) (m m' : List ℕ) (done : Bool) : Type 0 where
   pub answer : done ≡ not (may_overflow (table_of m) act)
-  pub memory : m' ≡ cond (may_overflow (table_of m) act) m (do_acts m (acts_of none act))
+  pub memory : m' ≡ cond (may_overflow (table_of m) act) m (do_acts m (acts_of None act))

@@ -1,9 +1,10 @@
 -- The claims about permissions without a path, proved: a request never answers Prompt, and what a check passes stays passed until a revoke.
+use Rattle.std.specs.Prelude.{Ok, Err}
 use Prim.Native.Nat.{ℕ}
 use mathlib.Core.Path.{◌≡◌, refl, sym, ap, ◌∙◌}
 use mathlib.Core.Bool.{Bool, false}
 use native.Mathlib.Omega.{arith}
-use Rattle.refusals.specs.Refusals.{Result, refused, ok, and_then}
+use Rattle.refusals.specs.Refusals.{Result, and_then}
 use Rattle.walk.specs.declared.PermissionState.{PermissionState}
 use Rattle.walk.specs.declared.PermissionState.TheVariants.{
   Granted,
@@ -43,7 +44,7 @@ request-settles DeniedPartial prompt response e = let n = ap state_number e in o
 request-settles Ignored prompt response e = let n = ap state_number e in omega arith
 
 settles : (found : StateRead) (known : ResponseRead) (prompt : Bool)
-    → answer_in (and_then (known_state found) (λ state. and_then (known_response known) (λ response. ok (decide Request state prompt response)))) ≡ answer.State Prompt → ⊥
+    → answer_in (and_then (known_state found) (λ state. and_then (known_response known) (λ response. Ok (decide Request state prompt response)))) ≡ answer.State Prompt → ⊥
 unfolding answer_in and_then known_state known_response
 settles Unknown known prompt e = let z : ◌≡◌ {A = ℕ} 0 1 = cc in omega arith
 settles (State state) read.Unknown prompt e = let z : ◌≡◌ {A = ℕ} 0 1 = cc in omega arith
@@ -58,12 +59,12 @@ never-prompt s prompt response s' r A e = settles (state_of s) (response_of resp
 -- a call answers the state that it leaves
 pub answer-left : (c : Result Decided) (s : ℕ) {state : PermissionState} → answer_in c ≡ answer.State state → state_after c s ≡ state_number state
 unfolding answer_in state_after
-answer-left (refused cause) s e = let z : ◌≡◌ {A = ℕ} 0 1 = cc in absurd (omega arith)
-answer-left (ok decided) s {state} e = let left : decided.state ≡ state = cc in ap state_number left
+answer-left (Err cause) s e = let z : ◌≡◌ {A = ℕ} 0 1 = cc in absurd (omega arith)
+answer-left (Ok decided) s {state} e = let left : decided.state ≡ state = cc in ap state_number left
 
 -- no check and no request leaves Granted for another state
 still-granted : (call : Call) (prompt : Bool) (known : ResponseRead)
-    → state_after (and_then (known_response known) (λ response. ok (decide call Granted prompt response))) 0 ≡ 0
+    → state_after (and_then (known_response known) (λ response. Ok (decide call Granted prompt response))) 0 ≡ 0
 unfolding state_after and_then known_response
 still-granted call prompt read.Unknown = refl
 still-granted Check prompt (read.Response response) = refl
@@ -78,7 +79,7 @@ unrevoked-granted start e = e
 unrevoked-granted (next before call prompt response r A) e = stays-granted A (unrevoked-granted before e)
 
 passes-granted : (prompt : Bool) (response : ℕ) {known : PromptResponse} → response_of response ≡ read.Response known
-    → unit_call Check 0 prompt response ≡ ok (record { state = Granted; asked = false })
+    → unit_call Check 0 prompt response ≡ Ok (record { state = Granted; asked = false })
 unfolding unit_call and_then known_state state_of known_response
 passes-granted prompt response k = rw k
 

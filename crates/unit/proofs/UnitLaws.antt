@@ -1,11 +1,12 @@
 -- Laws of the calls on a permission without a path: the state that a number names, and the ways through the checking order.
+use Rattle.std.specs.Prelude.{Err}
 use Prim.Native.Nat.{ℕ, zero, suc, ◌<◌}
 use mathlib.Core.Path.{◌≡◌, refl, ap, ◌∙◌}
 use mathlib.Core.Bool.{Bool}
 use native.Mathlib.Omega.{arith}
 use Rattle.refusals.specs.declared.Refusal.{Refusal}
 use Rattle.refusals.specs.declared.Refusal.TheVariants as refusal
-use Rattle.refusals.specs.Refusals.{refused, and_then}
+use Rattle.refusals.specs.Refusals.{and_then}
 use Rattle.walk.specs.declared.PermissionState.{PermissionState}
 use Rattle.walk.specs.declared.PermissionState.TheVariants.{
   Granted,
@@ -68,7 +69,7 @@ settle-same state e f = rw (e, f)
 -- ---- a check or request: a refusal says its cause and leaves the state's number; a decision says its state and leaves that
 
 module _ (call : Call) (s : ℕ) (prompt : Bool) (response : ℕ) where
-  asks-refused : {cause : Refusal} {r : UnitAsked} → unit_call call s prompt response ≡ refused cause → r ≡ refused_unit cause
+  asks-refused : {cause : Refusal} {r : UnitAsked} → unit_call call s prompt response ≡ Err cause → r ≡ refused_unit cause
       → AsksUnit call s prompt response s r
   unfolding answer_in asked_in state_after
   asks-refused e f = record { answer = rw (e, f); asked = rw (e, f); state = rw e }

@@ -1,9 +1,9 @@
 -- The calls on a permission without a path: for each its checking order, its answer, and the lent number of the state after it. Scope, "Permissions
 -- without a path".
-use Rattle.std.specs.Prelude.{ℕ, zero, suc, ◌≡◌, Bool, false}
+use Rattle.std.specs.Prelude.{ℕ, zero, suc, ◌≡◌, Bool, false, Ok, Err}
 use Rattle.refusals.specs.declared.Refusal.{Refusal}
 use Rattle.refusals.specs.declared.Refusal.TheVariants.{UnknownState}
-use Rattle.refusals.specs.Refusals.{Result, refused, ok, and_then}
+use Rattle.refusals.specs.Refusals.{Result, and_then}
 use Rattle.walk.specs.declared.PermissionState.{PermissionState}
 use Rattle.walk.specs.declared.PermissionState.TheVariants.{
   Granted,
@@ -38,8 +38,8 @@ state_of (suc (suc (suc (suc (suc (suc n)))))) = Unknown
 
 -- 12 where it names none
 unfoldable pub known_state : StateRead → Result PermissionState
-known_state (State state) = ok state
-known_state Unknown = refused UnknownState
+known_state (State state) = Ok state
+known_state Unknown = Err UnknownState
 
 -- ---- what a call comes to, on the state of number s
 
@@ -48,27 +48,27 @@ unfoldable pub unit_call : Call → ℕ → Bool → ℕ → Result Decided
 unit_call call s prompt response =
     and_then (known_state (state_of s)) (λ state.
     and_then (known_response (response_of response)) (λ known.
-    ok (decide call state prompt known)))
+    Ok (decide call state prompt known)))
 
 -- revoke: 12; nobody is asked
 unfoldable pub revoke_unit_call : ℕ → Result Decided
 revoke_unit_call s =
     and_then (known_state (state_of s)) (λ state.
-    ok (record { state = revoke state; asked = false }))
+    Ok (record { state = revoke state; asked = false }))
 
 -- ---- what it answers, and the number s' of the state after it; a refused call leaves the number as it was
 
 unfoldable pub answer_in : Result Decided → Answer
-answer_in (refused cause) = answer.Refused cause
-answer_in (ok decided) = answer.State decided.state
+answer_in (Err cause) = answer.Refused cause
+answer_in (Ok decided) = answer.State decided.state
 
 unfoldable pub asked_in : Result Decided → Bool
-asked_in (refused cause) = false
-asked_in (ok decided) = decided.asked
+asked_in (Err cause) = false
+asked_in (Ok decided) = decided.asked
 
 unfoldable pub state_after : Result Decided → ℕ → ℕ
-state_after (refused cause) s = s
-state_after (ok decided) s = state_number decided.state
+state_after (Err cause) s = s
+state_after (Ok decided) s = state_number decided.state
 
 pub record AsksUnit (call : Call) (s : ℕ) (prompt : Bool) (response s' : ℕ) (r : UnitAsked) : Type 0 where
   pub answer : r.answer ≡ answer_in (unit_call call s prompt response)

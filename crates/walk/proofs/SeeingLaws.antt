@@ -1,8 +1,8 @@
 -- Laws of the single pass: what one entry more adds to what was seen, and that the state follows from what was seen at its end.
+use Rattle.std.specs.Prelude.{Option, None, Some}
 use Prim.Native.Nat.{ℕ}
 use mathlib.Core.Path.{◌≡◌, refl, sym, ap, ◌∙◌}
 use mathlib.Core.List.{List, [], ◌∷◌, ◌++◌, append-nil, append_assoc}
-use mathlib.Core.Option.{Option, none, some}
 use mathlib.Core.Bool.{Bool, true, false, ◌&&◌, ◌||◌, cond, or-false, or_assoc, true≢false, false≢true}
 use lib.IntN.{ℤ}
 use lib.ListN.{length}
@@ -66,10 +66,10 @@ module _ (q : List ℕ) (e : Entry) {met : Met} (M : Meets e.path q met) where
 
 -- the first of two, if there is one
 abbrev or_later : Option Entry → Option Entry → Option Entry
-or_later none later = later
-or_later (some e) later = some e
+or_later None later = later
+or_later (Some e) later = Some e
 
-first_by : (b : Bool) (e : Entry) (o later : Option Entry) {o' : Option Entry} → o' ≡ or_later o later → cond b (some e) o' ≡ or_later (cond b (some e) o) later
+first_by : (b : Bool) (e : Entry) (o later : Option Entry) {o' : Option Entry} → o' ≡ or_later o later → cond b (Some e) o' ≡ or_later (cond b (Some e) o) later
 first_by true e o later h = refl
 first_by false e o later h = h
 
@@ -85,12 +85,12 @@ any_append f (e ∷ read) rest = ap (λ (b : Bool). f e || b) (any_append f read
 
 -- ---- one entry more
 
-first_one : (b : Bool) (e : Entry) (o : Option Entry) → kind_of_match (or_later o (cond b (some e) none)) ≡ first_of (kind_of_match o) e.kind b
+first_one : (b : Bool) (e : Entry) (o : Option Entry) → kind_of_match (or_later o (cond b (Some e) None)) ≡ first_of (kind_of_match o) e.kind b
 unfolding kind_of_match
-first_one true e none = refl
-first_one true e (some f) = refl
-first_one false e none = refl
-first_one false e (some f) = refl
+first_one true e None = refl
+first_one true e (Some f) = refl
+first_one false e None = refl
+first_one false e (Some f) = refl
 
 first_more : (q : List ℕ) (read : List Entry) (e : Entry) → kind_of_match (first_match q (read ++ e ∷ [])) ≡ first_of (kind_of_match (first_match q read)) e.kind (matches q e)
 unfolding first_match
@@ -191,8 +191,8 @@ stays I mode now later s h = refl
 settled-stays : (t : Table) (mode : AllowPartial) (d : Query) (found later : Option Entry) (now then : Bool) → is_settled (kind_of_match found) mode now ≡ true
     → (now ≡ true → then ≡ true) → by_match t mode d found now ≡ by_match t mode d (or_later found later) then
 unfolding kind_of_match by_match
-settled-stays t mode d none later now then s h = absurd (false≢true s)
-settled-stays t mode d (some e) later now then s h = stays e.kind mode now then s h
+settled-stays t mode d None later now then s h = absurd (false≢true s)
+settled-stays t mode d (Some e) later now then s h = stays e.kind mode now then s h
 
 -- ---- the state
 
@@ -219,7 +219,7 @@ module _ (t : Table) (mode : AllowPartial) (q : List ℕ) {s : Seen} (W : Walks 
 module _ (t : Table) (mode : AllowPartial) {s : Seen} (f : s.first ≡ Nothing) where
   marks-decide : s.partial ≡ is_partial t no_path → Decides t mode no_path s
   unfolding kind_of_match by_match query_desc
-  marks-decide p = record { found = none; first = f; state = ap (without_match t mode no_path) p }
+  marks-decide p = record { found = None; first = f; state = ap (without_match t mode no_path) p }
 
   -- mark 1 is set
   pub flag-denied-decides : {r : Bool} → s.partial ≡ r → r ≡ has t.marks has_flag_denied → r ≡ true → Decides t mode no_path s
@@ -235,13 +235,13 @@ module _ (t : Table) (mode : AllowPartial) {s : Seen} (f : s.first ≡ Nothing) 
 module _ (t : Table) (mode : AllowPartial) (d : Query) (partial : Bool) where
   pub by-none : (found : Option Entry) → Nothing ≡ kind_of_match found → by_match t mode d found partial ≡ without_match t mode d partial
   unfolding kind_of_match by_match
-  by-none none e = refl
-  by-none (some e) x = cc
+  by-none None e = refl
+  by-none (Some e) x = cc
 
   pub by_kind : (found : Option Entry) {k : Kind} → Match k ≡ kind_of_match found → by_match t mode d found partial ≡ decided_by k (allowed partial mode)
   unfolding kind_of_match by_match
-  by_kind none x = cc
-  by_kind (some e) x = cc
+  by_kind None x = cc
+  by_kind (Some e) x = cc
 
 -- the state that follows from what decides is the query's
 pub follows-decides : {t : Table} {mode : AllowPartial} {d : Query} {s : Seen} {state : PermissionState} → Follows t mode d s state → Decides t mode d s

@@ -1,8 +1,8 @@
 -- Laws of the walk over a table: modes and their numbers, and what a table grants that allows all.
+use Rattle.std.specs.Prelude.{Some}
 use Prim.Native.Nat.{ℕ, zero, suc, ◌<◌}
 use mathlib.Core.Path.{◌≡◌, refl, sym, ◌∙◌}
 use mathlib.Core.List.{List, [], ◌∷◌}
-use mathlib.Core.Option.{some}
 use mathlib.Core.Bool.{Bool, true, false, ◌&&◌, ◌||◌, not, and-false, true≢false}
 use native.Mathlib.Omega.{arith}
 use lib.Dec.{eqb}
@@ -101,7 +101,7 @@ by_first : (t : Table) (mode : AllowPartial) (q : List ℕ) (partial : Bool) {es
 unfolding first_match by_match decided_by
 by_first t mode q partial no-entry a w = w
 by_first t mode q partial (grant {e} {es} k g) a w =
-    either (λ o. by_match t mode (path q) o partial ≡ Granted) (matches q e) (some e) (first_match q es)
+    either (λ o. by_match t mode (path q) o partial ≡ Granted) (matches q e) (Some e) (first_match q es)
     (rw k a)
     (by_first t mode q partial g a w)
 

@@ -1,6 +1,6 @@
 -- The call query: its checking order and its answer. Scope, "A call comes in".
-use Rattle.std.specs.Prelude.{ℕ, List}
-use Rattle.refusals.specs.Refusals.{Result, refused, ok, and_then}
+use Rattle.std.specs.Prelude.{ℕ, List, Ok, Err}
+use Rattle.refusals.specs.Refusals.{Result, and_then}
 use Rattle.paths.specs.declared.Descriptor.{Descriptor}
 use Rattle.paths.specs.Giving.{given}
 use Rattle.table.specs.Calls.{table_in}
@@ -15,11 +15,11 @@ query_call m mode d p cwd =
     and_then (table_in m) (λ t.
     and_then (known_mode (mode_of mode)) (λ known.
     and_then (given d p cwd) (λ q.
-    ok (query_desc t known q))))
+    Ok (query_desc t known q))))
 
 unfoldable pub answer_of : Result PermissionState → Answer
-answer_of (refused cause) = Refused cause
-answer_of (ok state) = State state
+answer_of (Err cause) = Refused cause
+answer_of (Ok state) = State state
 
 -- the state, or the first cause
 unfoldable pub query_answer : List ℕ → ℕ → Descriptor → List ℕ → List ℕ → Answer

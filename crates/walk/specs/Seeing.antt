@@ -1,6 +1,5 @@
 -- What the walk sees of the entries, in a single pass, and when it may end.
-use Rattle.std.specs.Prelude.{ℕ, ◌≡◌, List, [], ◌∷◌, ◌++◌, Bool, true, false, ◌||◌}
-use Rattle.std.proofs.Math.Option.{Option, none, some}
+use Rattle.std.specs.Prelude.{ℕ, ◌≡◌, List, [], ◌∷◌, ◌++◌, Bool, true, false, ◌||◌, Option, None, Some}
 use Rattle.paths.specs.Giving.{Query}
 use Rattle.paths.specs.Relations.{is_prefix}
 use Rattle.table.specs.declared.Kind.{Kind}
@@ -41,8 +40,8 @@ partial_by partial I below = partial || below
 
 -- the kind of a match, if there is one
 unfoldable pub kind_of_match : Option Entry → FirstMatch
-kind_of_match none = Nothing
-kind_of_match (some e) = Match e.kind
+kind_of_match None = Nothing
+kind_of_match (Some e) = Match e.kind
 
 -- the first match among the entries read, and whether a partial denial is among them
 pub record Sees (q : List ℕ) (read : List Entry) (seen : Seen) : Type 0 where

@@ -1,6 +1,5 @@
 -- What a query answers. Scope, "The walk", and "A call comes in" for the numbers of states and modes.
-use Rattle.std.specs.Prelude.{ℕ, zero, suc, List, [], ◌∷◌, Bool, true, false, ◌&&◌, ◌||◌, not, cond, eqb}
-use Rattle.std.proofs.Math.Option.{Option, none, some}
+use Rattle.std.specs.Prelude.{ℕ, zero, suc, List, [], ◌∷◌, Bool, true, false, ◌&&◌, ◌||◌, not, cond, eqb, Option, None, Some, Ok, Err}
 use Rattle.walk.specs.declared.PermissionState.{PermissionState}
 use Rattle.walk.specs.declared.PermissionState.TheVariants.{
   Granted,
@@ -15,7 +14,7 @@ use Rattle.walk.specs.declared.AllowPartial.TheVariants.{TreatAsDenied, TreatAsP
 use Rattle.walk.specs.declared.ModeRead.{ModeRead}
 use Rattle.walk.specs.declared.ModeRead.TheVariants.{Mode, Unknown}
 use Rattle.refusals.specs.declared.Refusal.TheVariants as refusal
-use Rattle.refusals.specs.Refusals.{Result, refused, ok}
+use Rattle.refusals.specs.Refusals.{Result}
 use Rattle.paths.specs.Giving.{Query, no_path, path}
 use Rattle.table.specs.declared.Kind.{Kind}
 use Rattle.table.specs.declared.Kind.TheVariants.{G, D, P, I}
@@ -60,8 +59,8 @@ mode_of (suc (suc (suc n))) = Unknown
 
 -- 3 where it names none
 unfoldable pub known_mode : ModeRead → Result AllowPartial
-known_mode (Mode mode) = ok mode
-known_mode Unknown = refused refusal.Unknown
+known_mode (Mode mode) = Ok mode
+known_mode Unknown = Err refusal.Unknown
 
 -- ---- the walk
 
@@ -77,8 +76,8 @@ matches q e = matches_kind e.kind e.path q
 
 -- entries go in list order, and the first match decides
 unfoldable pub first_match : List ℕ → List Entry → Option Entry
-first_match q [] = none
-first_match q (e ∷ es) = cond (matches q e) (some e) (first_match q es)
+first_match q [] = None
+first_match q (e ∷ es) = cond (matches q e) (Some e) (first_match q es)
 
 -- ---- partial
 
@@ -135,8 +134,8 @@ without_match t mode d partial =
 
 -- by the first match, if there is one, and by whether what is asked about is partial
 unfoldable pub by_match : Table → AllowPartial → Query → Option Entry → Bool → PermissionState
-by_match t mode d none partial = without_match t mode d partial
-by_match t mode d (some e) partial = decided_by e.kind (allowed partial mode)
+by_match t mode d None partial = without_match t mode d partial
+by_match t mode d (Some e) partial = decided_by e.kind (allowed partial mode)
 
 -- the Rust's `query_desc`; with no path the walk is skipped
 unfoldable pub query_desc : Table → AllowPartial → Query → PermissionState

@@ -3,8 +3,6 @@ use Rattle.std.specs.Prelude.{ℕ, ◌≡◌, List, Bool, true, ◌&&◌, length
 use Rattle.refusals.specs.Refusals.{first_cause, Result, unless, and_then}
 use Rattle.paths.specs.declared.Descriptor.{Descriptor}
 use Rattle.paths.specs.declared.Descriptor.TheVariants.{NoPath, Path}
-use Rattle.paths.specs.declared.Resolution.{Resolution}
-use Rattle.paths.specs.declared.Resolution.TheVariants.{Resolved}
 use Rattle.paths.specs.Resolving.{max_path, resolve, is_resolved, path_conditions, resolution, resolved_into}
 
 -- a path that an entry or an act may have: in resolved form and within its limit
@@ -42,14 +40,14 @@ given_size Path p cwd = length (resolve p cwd)
 
 -- ---- the same as an answer of the code, with the lent space after it
 
-unfoldable pub given_resolution : Descriptor → List ℕ → List ℕ → Resolution
-given_resolution NoPath p cwd = Resolved 0
+unfoldable pub given_resolution : Descriptor → List ℕ → List ℕ → Result ℕ
+given_resolution NoPath p cwd = Ok 0
 given_resolution Path p cwd = resolution p cwd
 
 unfoldable pub given_into : Descriptor → List ℕ → List ℕ → List ℕ → List ℕ
 given_into NoPath p cwd space = space
 given_into Path p cwd space = resolved_into p cwd space
 
-pub record Gives (d : Descriptor) (p cwd space : List ℕ) (r : Resolution) (after : List ℕ) : Type 0 where
+pub record Gives (d : Descriptor) (p cwd space : List ℕ) (r : Result ℕ) (after : List ℕ) : Type 0 where
   pub answer : r ≡ given_resolution d p cwd
   pub bytes : after ≡ given_into d p cwd space

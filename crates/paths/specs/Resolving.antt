@@ -3,9 +3,7 @@ use Rattle.std.specs.Prelude.{ℕ, ◌≡◌, Bool, false, ◌&&◌, ◌||◌, n
 use mathlib.Core.List.{List, [], ◌∷◌, ◌++◌, drop_last}
 use Rattle.refusals.specs.declared.Refusal.{Refusal}
 use Rattle.refusals.specs.declared.Refusal.TheVariants.{EmptyPath, PathTooLong, BadDirectory, ResolvedTooLong}
-use Rattle.refusals.specs.Refusals.{Condition, when, first_cause}
-use Rattle.paths.specs.declared.Resolution.{Resolution}
-use Rattle.paths.specs.declared.Resolution.TheVariants.{Resolved, Refused}
+use Rattle.refusals.specs.Refusals.{Condition, when, first_cause, Result, unless}
 use Rattle.paths.specs.Components.{slash, dot, same, pieces, spell}
 
 unfoldable pub is_absolute : List ℕ → Bool
@@ -65,13 +63,9 @@ path_conditions p cwd =
 
 -- ---- the answer of resolving, and the lent space after it
 
-unfoldable pub answered : List ℕ → Option Refusal → Resolution
-answered path None = Resolved (length path)
-answered path (Some cause) = Refused cause
-
 -- the length of the resolved path, or the first cause
-unfoldable pub resolution : List ℕ → List ℕ → Resolution
-resolution p cwd = answered (resolve p cwd) (first_cause (path_conditions p cwd))
+unfoldable pub resolution : List ℕ → List ℕ → Result ℕ
+resolution p cwd = unless (first_cause (path_conditions p cwd)) (length (resolve p cwd))
 
 unfoldable pub space_after : List ℕ → List ℕ → Option Refusal → List ℕ
 space_after path space None = path ++ drop (length path) space
@@ -82,6 +76,6 @@ unfoldable pub resolved_into : List ℕ → List ℕ → List ℕ → List ℕ
 resolved_into p cwd space = space_after (resolve p cwd) space (first_cause (path_conditions p cwd))
 
 -- the answer of resolving, and the lent space after it
-pub record Resolves (path cwd space : List ℕ) (r : Resolution) (after : List ℕ) : Type 0 where
+pub record Resolves (path cwd space : List ℕ) (r : Result ℕ) (after : List ℕ) : Type 0 where
   pub answer : r ≡ resolution path cwd
   pub bytes : after ≡ resolved_into path cwd space

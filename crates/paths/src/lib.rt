@@ -1,8 +1,6 @@
 // Paths: resolving one, and how two of them relate. The definitions are in specs/.
 #![tactic(auto)]
 
-use refusals::Refusal;
-
 pub mod copying;
 pub mod giving;
 pub mod relating;
@@ -15,7 +13,7 @@ pub const MAX_PATH: usize = 1024;
 const JOINED_BYTES: usize = 2050;
 
 // How one path relates to another.
-#[derive(Clone, Copy)]
+#[derive(Clone, Copy, PartialEq, Eq)]
 pub enum Relation {
     Equal,
     // A prefix of the other, by whole components, and not equal.
@@ -39,18 +37,4 @@ pub struct Comparison {
 pub enum Descriptor {
     NoPath,
     Path,
-}
-
-// What resolving a path answers: the length of the resolved path, or why there is none.
-#[derive(Clone, Copy)]
-pub enum Resolution {
-    Resolved(usize),
-    Refused(Refusal),
-}
-
-// What comparing two paths as given answers: what is found, or why nothing is compared.
-#[derive(Clone, Copy)]
-pub enum Compared {
-    Comparison(Comparison),
-    Refused(Refusal),
 }

@@ -7,7 +7,7 @@ ghost use Rattle.paths.specs.Entering.{before_last, entered_bytes, enter_all_byt
 ghost use Rattle.paths.specs.Answering.{too_long, Answers};
 
 use crate::copying::copy_in;
-use crate::{JOINED_BYTES, MAX_PATH, Resolution};
+use crate::{JOINED_BYTES, MAX_PATH};
 use refusals::Refusal;
 
 // Where the component that begins at an offset ends: at the next slash, or at the path's end.
@@ -241,33 +241,33 @@ fn enter_joined(work: &mut [u8], path: &[u8], cwd: &[u8]) -> usize
 }
 
 // Copies the resolved path into the lent space, where it is not too long.
-fn hand_over(work: &[u8], len: usize, space: &mut [u8; MAX_PATH]) -> Resolution
+fn hand_over(work: &[u8], len: usize, space: &mut [u8; MAX_PATH]) -> Result<usize, Refusal>
     requires { len ≤ length work.now }
     ensures { Answers (rooted (take len work.now)) (too_long (rooted (take len work.now))) space.old result space.new }
 {
     if len > MAX_PATH {
-        return Resolution::Refused(Refusal::ResolvedTooLong);
+        return Err(Refusal::ResolvedTooLong);
     }
     if len == 0 {
         copy_in(space, 0, b"/");
-        return Resolution::Resolved(1);
+        return Ok(1);
     }
     copy_in(space, 0, &work[..len]);
-    Resolution::Resolved(len)
+    Ok(len)
 }
 
 // Resolves a path given in a working directory into the lent space, from its start.
-pub fn resolve(path: &[u8], cwd: &[u8], space: &mut [u8; MAX_PATH]) -> Resolution
+pub fn resolve(path: &[u8], cwd: &[u8], space: &mut [u8; MAX_PATH]) -> Result<usize, Refusal>
     ensures { Resolves path.now cwd.now space.old result space.new }
 {
     if path.len() == 0 {
-        return Resolution::Refused(Refusal::EmptyPath);
+        return Err(Refusal::EmptyPath);
     }
     if path.len() > MAX_PATH {
-        return Resolution::Refused(Refusal::PathTooLong);
+        return Err(Refusal::PathTooLong);
     }
     if is_bad_directory(path, cwd) {
-        return Resolution::Refused(Refusal::BadDirectory);
+        return Err(Refusal::BadDirectory);
     }
     let mut work = [0u8; JOINED_BYTES];
     let len = enter_joined(&mut work, path, cwd);

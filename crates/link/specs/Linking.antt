@@ -1,6 +1,6 @@
 -- The link in a call's checking order: the record space (2) and the run number (3) of a linked call, the numbers that its acts take, and causes 8 and 9.
 -- A plain call passes 2, 3 and 9. Scope, "A call comes in".
-use Rattle.std.specs.Prelude.{ℕ, zero, suc, ◌+◌, ◌*◌, List, [], ◌∷◌, Bool, false, not, length, leb, ltb, Option, None, Some, Ok, Err}
+use Rattle.std.specs.Prelude.{ℕ, zero, suc, ◌+◌, ◌*◌, List, [], ◌∷◌, Bool, false, not, length, leb, ltb, Unit, tt, Option, None, Some, Ok, Err}
 use Rattle.refusals.specs.declared.Refusal.{Refusal}
 use Rattle.refusals.specs.declared.Refusal.TheVariants.{NoSpace, Unknown, TableFull, NumbersUsedUp}
 use Rattle.refusals.specs.Refusals.{when, first_cause, Result, unless}
@@ -40,6 +40,10 @@ lacks_run (Linked run) = not (is_run run)
 -- 3: the run number; what is handed on is how acts are numbered, with the number n lent
 unfoldable pub run_in : Link → ℕ → Result Numbering
 run_in link n = unless (first_cause (when (lacks_run link) Unknown ∷ [])) (numbering link n)
+
+-- 2 and 3 in their order, of a call of k items
+unfoldable pub admit : ℕ → Link → List ℕ → Result Unit
+admit k link w = unless (first_cause (when (lacks_room k link w) NoSpace ∷ when (lacks_run link) Unknown ∷ [])) tt
 
 -- a recorded act needs a number above the greatest
 unfoldable pub used_up : Numbering → Bool

@@ -1,24 +1,18 @@
 // The record space and the run number of a linked call. Scope, "A call comes in".
 ghost use Rattle.std.specs.Prelude.{◌≡◌, ◌*◌, ltb};
 ghost use Rattle.records.specs.Numbers.{record_space};
-ghost use Rattle.link.specs.Linking.{at_least_one, lacks_room, lacks_run};
+ghost use Rattle.link.specs.Linking.{at_least_one, lacks_room, lacks_run, admit};
 
 use crate::Link;
 use records::RECORD_WORDS;
 use records::numbers::is_run;
+use refusals::Refusal;
 
 // Whether so many words are too few for the records of so many items.
 fn is_short(words: usize, items: usize) -> bool
     ensures { result ≡ ltb words (record_space * at_least_one items) }
 {
-    let records = words / RECORD_WORDS;
-    if records < 1 {
-        return true;
-    }
-    if records < items {
-        return true;
-    }
-    false
+    words / RECORD_WORDS < items.max(1)
 }
 
 // Whether a linked call of so many items has too few words for their records.
@@ -39,4 +33,17 @@ pub fn lacks_run(link: Link) -> bool
         Link::Plain => false,
         Link::Linked(run) => !is_run(run),
     }
+}
+
+// The link's tests of a call of so many items: its record space (2), then its run number (3).
+pub fn admit(link: Link, items: usize, words: &[u32]) -> Result<(), Refusal>
+    ensures { result ≡ admit items link words.now }
+{
+    if lacks_room(link, items, words) {
+        return Err(Refusal::NoSpace);
+    }
+    if lacks_run(link) {
+        return Err(Refusal::Unknown);
+    }
+    Ok(())
 }

@@ -7,43 +7,30 @@ ghost use Rattle.link.specs.declared.Link.TheVariants.{Linked};
 ghost use Rattle.link.specs.Sending.{lent};
 ghost use Rattle.link.specs.Steps.{is_none, Ready, no_number, SendsAt, Performs};
 
-use crate::{Link, Sent};
+use crate::Link;
 use records::MAX_NUMBER;
 use records::writing::write_record;
 use refusals::Refusal;
 use table::carrying::carry_out;
 use table::placing::overflows;
-use table::{Action, Outcome};
+use table::Action;
 
 // Whether there is no act.
 fn is_nothing(action: Action) -> bool
     ensures { (q : List ℕ) → result ≡ is_none (act_of action q) }
 {
-    match action {
-        Action::Nothing => true,
-        Action::Insert(_) => false,
-        Action::SetSwitches(_) => false,
-        Action::Revoke => false,
-        Action::RevokeAll => false,
-    }
+    matches!(action, Action::Nothing)
 }
 
 // Why an act is refused for which no number is left: an insert with no room comes first.
-fn without_number(mem: &[u8], action: Action, q: &[u8]) -> Outcome
+fn without_number(mem: &[u8], action: Action, q: &[u8]) -> Result<(), Refusal>
     requires { holds mem.now ≡ true }
     ensures { result ≡ no_number (table_of mem.now) (act_of action q.now) }
 {
     match action {
-        Action::Nothing => Outcome::Done,
-        Action::Insert(kind) => {
-            if overflows(mem, kind, q) {
-                return Outcome::Refused(Refusal::TableFull);
-            }
-            Outcome::Refused(Refusal::NumbersUsedUp)
-        }
-        Action::SetSwitches(_) => Outcome::Refused(Refusal::NumbersUsedUp),
-        Action::Revoke => Outcome::Refused(Refusal::NumbersUsedUp),
-        Action::RevokeAll => Outcome::Refused(Refusal::NumbersUsedUp),
+        Action::Nothing => Ok(()),
+        Action::Insert(kind) if overflows(mem, kind, q) => Err(Refusal::TableFull),
+        _ => Err(Refusal::NumbersUsedUp),
     }
 }
 
@@ -78,30 +65,19 @@ fn perform_linked(
     at: usize,
     action: Action,
     q: &[u8],
-) -> Sent
+) -> Result<usize, Refusal>
     requires { (holds mem.old ≡ true) × (fits (act_of action q.now) ≡ true) × Ready (Linked run) words.old at }
     ensures { Performs (Linked run) (act_of action q.now) (lent mem.old number.old words.old) at (lent mem.new number.new words.new) result }
 {
-    let last = *number;
-    if last >= MAX_NUMBER {
-        return Sent {
-            outcome: without_number(mem, action, q),
-            words: at,
-        };
+    if *number >= MAX_NUMBER {
+        without_number(mem, action, q)?;
+        return Ok(at);
     }
-    match carry_out(mem, action, q) {
-        Outcome::Refused(cause) => Sent {
-            outcome: Outcome::Refused(cause),
-            words: at,
-        },
-        Outcome::Done => Sent {
-            outcome: Outcome::Done,
-            words: send_at(run, number, words, at, action, q),
-        },
-    }
+    carry_out(mem, action, q)?;
+    Ok(send_at(run, number, words, at, action, q))
 }
 
-// Carries an act out and, where the call is linked, records it from an offset of the record space on; or it is refused by 8 or 9.
+// Carries an act out and, where the call is linked, records it from an offset of the record space on; or it is refused by 8 or 9. It tells where the record ends.
 pub fn perform(
     mem: &mut [u8],
     link: Link,
@@ -110,15 +86,15 @@ pub fn perform(
     at: usize,
     action: Action,
     q: &[u8],
-) -> Sent
+) -> Result<usize, Refusal>
     requires { (holds mem.old ≡ true) × (fits (act_of action q.now) ≡ true) × Ready link words.old at }
     ensures { Performs link (act_of action q.now) (lent mem.old number.old words.old) at (lent mem.new number.new words.new) result }
 {
     match link {
-        Link::Plain => Sent {
-            outcome: carry_out(mem, action, q),
-            words: at,
-        },
+        Link::Plain => {
+            carry_out(mem, action, q)?;
+            Ok(at)
+        }
         Link::Linked(run) => perform_linked(mem, run, number, words, at, action, q),
     }
 }

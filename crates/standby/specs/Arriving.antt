@@ -10,7 +10,8 @@ use Rattle.table.specs.Calls.{with_room}
 use Rattle.records.specs.Records.{Change, read_change}
 use Rattle.standby.specs.declared.Numbers.{Numbers}
 use Rattle.standby.specs.declared.Arrival.{Arrival}
-use Rattle.standby.specs.declared.Arrival.TheVariants.{Applied, Repeat, Early, Refused}
+use Rattle.standby.specs.declared.Arrival.TheVariants.{Applied, Repeat, Early}
+use Rattle.standby.specs.declared.Arrived.{Arrived}
 
 -- ---- the checking order
 
@@ -42,17 +43,17 @@ met s q k =
 
 -- its answer, and the memory and the numbers afterwards
 pub record Left : Type 0 where
-  pub answer : Arrival
+  pub answer : Result Arrival
   pub memory : List ℕ
   pub numbers : Numbers
 
 -- no entry is touched
 abbrev pub stays : Arrival → List ℕ → Numbers → Left
-stays answer m s = record { answer = answer; memory = m; numbers = s }
+stays arrival m s = record { answer = Ok arrival; memory = m; numbers = s }
 
 -- the act is done, as the change after n
 abbrev pub applies : List ℕ → Numbers → Act → Left
-applies m s act = record { answer = Applied; memory = do_act m act; numbers = record { n = s.n + 1; h = s.h; run = s.run; highest = s.highest } }
+applies m s act = record { answer = Ok Applied; memory = do_act m act; numbers = record { n = s.n + 1; h = s.h; run = s.run; highest = s.highest } }
 
 -- number n + 1 of the standby's run is applied, unless its act has no room (8)
 unfoldable pub applied : Table → List ℕ → Numbers → Change → Result Left
@@ -66,7 +67,7 @@ in_run t m s c =
 
 -- the standby moves to the run of a change 1, first clearing its table and n. A fresh table has room for every act, so there is no 8: `fresh-room`
 abbrev pub moves : List ℕ → Numbers → Change → Left
-moves m s c = record { answer = Applied; memory = do_act (put fresh m) c.act; numbers = record { n = 1; h = s.h; run = c.run; highest = s.highest } }
+moves m s c = record { answer = Ok Applied; memory = do_act (put fresh m) c.act; numbers = record { n = 1; h = s.h; run = c.run; highest = s.highest } }
 
 -- a change of a higher run: change 1 moves the standby, and any other answers Early
 unfoldable pub moved : List ℕ → Numbers → Change → Left
@@ -86,14 +87,24 @@ arrival m words s = and_then (standby_in m s) (λ t. and_then (well_formed (read
 
 -- a refused arrival leaves memory m and the numbers s
 unfoldable pub left_by : Result Left → List ℕ → Numbers → Left
-left_by (Err cause) m s = stays (Refused cause) m s
+left_by (Err cause) m s = record { answer = Err cause; memory = m; numbers = s }
 left_by (Ok r) m s = r
 
 -- memory m and the numbers s become m' and s'
-pub record Comes (call : Result Left) (m : List ℕ) (s : Numbers) (m' : List ℕ) (s' : Numbers) (r : Arrival) : Type 0 where
+pub record Comes (call : Result Left) (m : List ℕ) (s : Numbers) (m' : List ℕ) (s' : Numbers) (r : Result Arrival) : Type 0 where
   pub answer : r ≡ (left_by call m s).answer
   pub memory : m' ≡ (left_by call m s).memory
   pub numbers : s' ≡ (left_by call m s).numbers
 
-abbrev pub Arrives : List ℕ → List ℕ → Numbers → List ℕ → Numbers → Arrival → Type 0
+abbrev pub Arrives : List ℕ → List ℕ → Numbers → List ℕ → Numbers → Result Arrival → Type 0
 Arrives m words s m' s' r = Comes (arrival m words s) m s m' s' r
+
+-- ---- an answer that has the numbers beside it: they stay where it is refused
+
+abbrev pub numbers_in : Numbers → Result Arrived → Numbers
+numbers_in before (Ok a) = a.numbers
+numbers_in before (Err cause) = before
+
+abbrev pub arrival_in : Result Arrived → Result Arrival
+arrival_in (Ok a) = Ok a.arrival
+arrival_in (Err cause) = Err cause

@@ -22,7 +22,7 @@ is_taken s run number = ltb s.run run || (eqb s.run run && ltb s.n number)
 -- the standby has the image's table, run and number; s are the numbers once the image is met
 unfoldable pub takes : List ℕ → Numbers → Image → Left
 takes m s i = record {
-  answer = Taken;
+  answer = Ok Taken;
   memory = put i.table m;
   numbers = record { n = i.number; h = s.h; run = i.run; highest = s.highest };
 }
@@ -35,5 +35,5 @@ loaded m s i = cond (is_taken s i.run i.number) (takes m s i) (stays Repeat m s)
 unfoldable pub loading : List ℕ → List ℕ → Numbers → Result Left
 loading m words s = and_then (standby_in m s) (λ t. and_then (is_image (read_image words)) (λ i. Ok (loaded m (met s i.run i.number) i)))
 
-abbrev pub Loads : List ℕ → List ℕ → Numbers → List ℕ → Numbers → Arrival → Type 0
+abbrev pub Loads : List ℕ → List ℕ → Numbers → List ℕ → Numbers → Result Arrival → Type 0
 Loads m words s m' s' r = Comes (loading m words s) m s m' s' r

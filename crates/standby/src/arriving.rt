@@ -2,50 +2,23 @@
 ghost use Rattle.std.specs.Prelude.{◌≡◌, true};
 ghost use Rattle.table.specs.Memory.{holds};
 ghost use Rattle.table.specs.Carrying.{act_of, fits};
-ghost use Rattle.standby.specs.Arriving.{conflict, higher, met, Arrives};
-ghost use Rattle.standby.specs.Steps.{unchanged, Moves, Takes};
+ghost use Rattle.standby.specs.Arriving.{conflict, met, numbers_in, arrival_in, Arrives};
+ghost use Rattle.standby.specs.Steps.{Moves, Takes};
 
 use crate::{Arrival, Arrived, Numbers};
 use paths::MAX_PATH;
-use records::Record;
 use records::reading::read_record;
 use refusals::Refusal;
+use table::Action;
 use table::acting::make_fresh;
 use table::carrying::carry_out;
 use table::holding::holds_table;
-use table::{Action, Outcome};
-
-// The higher of two numbers.
-pub(crate) fn higher_of(h: u64, number: u64) -> u64
-    ensures { result ≡ higher h number }
-{
-    if h < number {
-        return number;
-    }
-    h
-}
-
-// An arrival that is refused: the numbers stay.
-pub(crate) fn refused(cause: Refusal, numbers: Numbers) -> Arrived
-    ensures { result ≡ unchanged cause numbers }
-{
-    Arrived {
-        answer: Arrival::Refused(cause),
-        numbers,
-    }
-}
 
 // Whether the numbers are none that a standby has.
 pub(crate) fn in_conflict(numbers: Numbers) -> bool
     ensures { result ≡ conflict numbers }
 {
-    if numbers.highest < numbers.run {
-        return true;
-    }
-    if numbers.run != numbers.highest {
-        return false;
-    }
-    numbers.h < numbers.n
+    numbers.highest < numbers.run || numbers.run == numbers.highest && numbers.h < numbers.n
 }
 
 // The numbers once a number of a run is met, by a record or an image that is not refused.
@@ -65,7 +38,7 @@ pub(crate) fn meet(numbers: Numbers, run: u32, number: u64) -> Numbers
     }
     Numbers {
         n: numbers.n,
-        h: higher_of(numbers.h, number),
+        h: numbers.h.max(number),
         run: numbers.run,
         highest: numbers.highest,
     }
@@ -85,14 +58,14 @@ fn take_higher(
 {
     if number != 1 {
         return Arrived {
-            answer: Arrival::Early,
+            arrival: Arrival::Early,
             numbers,
         };
     }
     make_fresh(mem);
     carry_out(mem, action, q);
     Arrived {
-        answer: Arrival::Applied,
+        arrival: Arrival::Applied,
         numbers: Numbers {
             n: 1,
             h: numbers.h,
@@ -111,74 +84,79 @@ fn take_change(
     number: u64,
     action: Action,
     q: &[u8],
-) -> Arrived
+) -> Result<Arrived, Refusal>
     requires { (holds mem.old ≡ true) × (fits (act_of action q.now) ≡ true) }
     ensures { Takes run number (act_of action q.now) mem.old numbers mem.new result }
 {
     let after = meet(numbers, run, number);
     if run < after.run {
-        return Arrived {
-            answer: Arrival::Repeat,
+        return Ok(Arrived {
+            arrival: Arrival::Repeat,
             numbers: after,
-        };
+        });
     }
     if after.run < run {
-        return take_higher(mem, after, run, number, action, q);
+        return Ok(take_higher(mem, after, run, number, action, q));
     }
     let n = after.n;
     if number <= n {
-        return Arrived {
-            answer: Arrival::Repeat,
+        return Ok(Arrived {
+            arrival: Arrival::Repeat,
             numbers: after,
-        };
+        });
     }
     if number > n + 1 {
-        return Arrived {
-            answer: Arrival::Early,
+        return Ok(Arrived {
+            arrival: Arrival::Early,
             numbers: after,
-        };
+        });
     }
-    match carry_out(mem, action, q) {
-        Outcome::Refused(cause) => refused(cause, numbers),
-        Outcome::Done => Arrived {
-            answer: Arrival::Applied,
-            numbers: Numbers {
-                n: number,
-                h: after.h,
-                run: after.run,
-                highest: after.highest,
-            },
+    carry_out(mem, action, q)?;
+    Ok(Arrived {
+        arrival: Arrival::Applied,
+        numbers: Numbers {
+            n: number,
+            h: after.h,
+            run: after.run,
+            highest: after.highest,
         },
-    }
+    })
 }
 
 // Takes the record that the lent words are. The numbers come and go by value.
-pub fn take_record(mem: &mut [u8], words: &[u32], numbers: Numbers) -> Arrived
-    ensures { Arrives mem.old words.now numbers mem.new result.numbers result.answer }
+pub fn take_record(mem: &mut [u8], words: &[u32], numbers: Numbers) -> Result<Arrived, Refusal>
+    ensures { Arrives mem.old words.now numbers mem.new (numbers_in numbers result) (arrival_in result) }
 {
     if !holds_table(mem) {
-        return refused(Refusal::NoTable, numbers);
+        return Err(Refusal::NoTable);
     }
     if in_conflict(numbers) {
-        return refused(Refusal::NoTable, numbers);
+        return Err(Refusal::NoTable);
     }
     let mut space = [0u8; MAX_PATH];
-    match read_record(words, 0, &mut space) {
-        Record::Malformed => refused(Refusal::MalformedRecord, numbers),
-        Record::Change(run, number, action, size, end) => {
-            if end != words.len() {
-                return refused(Refusal::MalformedRecord, numbers);
-            }
-            take_change(mem, numbers, run, number, action, &space[..size])
-        }
+    let record = read_record(words, 0, &mut space).ok_or(Refusal::MalformedRecord)?;
+    if record.end != words.len() {
+        return Err(Refusal::MalformedRecord);
     }
+    take_change(
+        mem,
+        numbers,
+        record.run,
+        record.number,
+        record.action,
+        &space[..record.size],
+    )
 }
 
-// An arrival: the lent numbers are taken out, and what they are after it is put back.
-pub fn arrive(mem: &mut [u8], words: &[u32], numbers: &mut Numbers) -> Arrival
+// An arrival: the lent numbers are taken out, and what they are after it is put back. A refused one leaves them.
+pub fn arrive(
+    mem: &mut [u8],
+    words: &[u32],
+    numbers: &mut Numbers,
+) -> Result<Arrival, Refusal>
     ensures { Arrives mem.old words.now numbers.old mem.new numbers.new result }
 {
-    let arrived = take_record(mem, words, *numbers);
+    let arrived = take_record(mem, words, *numbers)?;
     *numbers = arrived.numbers;
-    arrived.answer
+    Ok(arrived.arrival)
 }

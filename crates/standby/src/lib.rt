@@ -1,8 +1,6 @@
 // The standby's half of the link: the arrival of a record or an image, and what is owed. The definitions are in specs/.
 #![tactic(auto)]
 
-use refusals::Refusal;
-
 pub mod arriving;
 pub mod loading;
 pub mod owing;
@@ -20,26 +18,18 @@ pub struct Numbers {
     pub highest: u32,
 }
 
-// What an arrival answers: its change was applied, had been before, or is not due yet; or its image was taken; or the arrival is refused.
-#[derive(Clone, Copy)]
+// What an arrival that is not refused answers: its change was applied, had been before, or is not due yet; or its image was taken.
+#[derive(Clone, Copy, PartialEq, Eq)]
 pub enum Arrival {
     Applied,
     Repeat,
     Early,
     Taken,
-    Refused(Refusal),
 }
 
-// The answer, and the numbers after the arrival.
+// The answer of an arrival that is not refused, and the numbers after it.
 #[derive(Clone, Copy)]
 pub struct Arrived {
-    pub answer: Arrival,
+    pub arrival: Arrival,
     pub numbers: Numbers,
-}
-
-// How many changes are owed; or the numbers are refused.
-#[derive(Clone, Copy)]
-pub enum Owed {
-    Changes(u64),
-    Refused(Refusal),
 }

@@ -1,10 +1,10 @@
 // The arrival of an image at the standby.
 ghost use Rattle.std.specs.Prelude.{◌≡◌};
+ghost use Rattle.standby.specs.Arriving.{numbers_in, arrival_in};
 ghost use Rattle.standby.specs.Loading.{is_taken, Loads};
 
-use crate::arriving::{in_conflict, meet, refused};
+use crate::arriving::{in_conflict, meet};
 use crate::{Arrival, Arrived, Numbers};
-use images::ImageRead;
 use images::loading::load_table;
 use images::reading::read_image;
 use refusals::Refusal;
@@ -14,54 +14,44 @@ use table::holding::holds_table;
 fn is_taken(numbers: Numbers, run: u32, number: u64) -> bool
     ensures { result ≡ is_taken numbers run number }
 {
-    if numbers.run < run {
-        return true;
-    }
-    if numbers.run != run {
-        return false;
-    }
-    numbers.n < number
+    numbers.run < run || numbers.run == run && numbers.n < number
 }
 
 // Takes the table, the run and the number of the image that the lent words are, unless it is a repeat. The numbers come and go by value.
-pub fn take_image(mem: &mut [u8], words: &[u32], numbers: Numbers) -> Arrived
-    ensures { Loads mem.old words.now numbers mem.new result.numbers result.answer }
+pub fn take_image(mem: &mut [u8], words: &[u32], numbers: Numbers) -> Result<Arrived, Refusal>
+    ensures { Loads mem.old words.now numbers mem.new (numbers_in numbers result) (arrival_in result) }
 {
     if !holds_table(mem) {
-        return refused(Refusal::NoTable, numbers);
+        return Err(Refusal::NoTable);
     }
     if in_conflict(numbers) {
-        return refused(Refusal::NoTable, numbers);
+        return Err(Refusal::NoTable);
     }
-    match read_image(words) {
-        ImageRead::Malformed => refused(Refusal::MalformedImage, numbers),
-        ImageRead::Image(run, number, switches, marks, count) => {
-            let after = meet(numbers, run, number);
-            if !is_taken(after, run, number) {
-                return Arrived {
-                    answer: Arrival::Repeat,
-                    numbers: after,
-                };
-            }
-            load_table(words, switches, marks, count, mem);
-            Arrived {
-                answer: Arrival::Taken,
-                numbers: Numbers {
-                    n: number,
-                    h: after.h,
-                    run,
-                    highest: after.highest,
-                },
-            }
-        }
+    let image = read_image(words).ok_or(Refusal::MalformedImage)?;
+    let after = meet(numbers, image.run, image.number);
+    if !is_taken(after, image.run, image.number) {
+        return Ok(Arrived {
+            arrival: Arrival::Repeat,
+            numbers: after,
+        });
     }
+    load_table(words, image, mem);
+    Ok(Arrived {
+        arrival: Arrival::Taken,
+        numbers: Numbers {
+            n: image.number,
+            h: after.h,
+            run: image.run,
+            highest: after.highest,
+        },
+    })
 }
 
-// An image arrives: the lent numbers are taken out, and what they are after it is put back.
-pub fn load(mem: &mut [u8], words: &[u32], numbers: &mut Numbers) -> Arrival
+// An image arrives: the lent numbers are taken out, and what they are after it is put back. A refused one leaves them.
+pub fn load(mem: &mut [u8], words: &[u32], numbers: &mut Numbers) -> Result<Arrival, Refusal>
     ensures { Loads mem.old words.now numbers.old mem.new numbers.new result }
 {
-    let arrived = take_image(mem, words, *numbers);
+    let arrived = take_image(mem, words, *numbers)?;
     *numbers = arrived.numbers;
-    arrived.answer
+    Ok(arrived.arrival)
 }

@@ -27,7 +27,7 @@ pub record Made : Type 0 where
   pub acts : List Act
   pub grants : List Act
   pub asked : ℕ
-  pub Err : Option Refusal
+  pub refused : Option Refusal
 
 abbrev pub nothing : Made
 nothing = record { acts = []; grants = []; asked = 0; refused = None }

@@ -5,33 +5,24 @@ use Rattle.table.specs.declared.Kind.{Kind}
 use Rattle.table.specs.Entries.{Entry}
 use Rattle.table.specs.Tables.{max_path_bytes, path_bytes, marks_of}
 use Rattle.table.specs.Memory.{put}
-use Rattle.records.specs.declared.PathRead.{PathRead}
-use Rattle.records.specs.declared.PathRead.TheVariants as path-answer
 use Rattle.records.specs.Records.{Read}
 use Rattle.images.specs.declared.EntryRead.{EntryRead}
-use Rattle.images.specs.declared.EntryRead.TheVariants as entry-answer
 use Rattle.images.specs.declared.ImageRead.{ImageRead}
-use Rattle.images.specs.declared.ImageRead.TheVariants as answer
 use Rattle.images.specs.Images.{Image, entry_words}
 
 -- ---- an entry
 
--- the entry of a kind, by what reading its path answered
-unfoldable pub kind_entry : Kind → PathRead → EntryRead
-kind_entry kind path-answer.Malformed = entry-answer.Malformed
-kind_entry kind (path-answer.Path n end) = entry-answer.Entry kind n end
-
 -- an entry whose words begin at `at`: its kind, its path's length, and where the words behind it begin
-unfoldable pub entry_answer : ℕ → Option (Read Entry) → EntryRead
-entry_answer at None = entry-answer.Malformed
-entry_answer at (Some r) = entry-answer.Entry r.value.kind (length r.value.path) (at + length (entry_words r.value))
+unfoldable pub entry_answer : ℕ → Option (Read Entry) → Option EntryRead
+entry_answer at None = None
+entry_answer at (Some r) = Some (record { kind = r.value.kind; size = length r.value.path; end = at + length (entry_words r.value) })
 
 -- its path stands from the space's start, or the space is as it was
 unfoldable pub entry_into : Option (Read Entry) → List ℕ → List ℕ
 entry_into None space = space
 entry_into (Some r) space = begun r.value.path space
 
-pub record ReadsEntry (at : ℕ) (entry : Option (Read Entry)) (space : List ℕ) (r : EntryRead) (after : List ℕ) : Type 0 where
+pub record ReadsEntry (at : ℕ) (entry : Option (Read Entry)) (space : List ℕ) (r : Option EntryRead) (after : List ℕ) : Type 0 where
   pub answer : r ≡ entry_answer at entry
   pub bytes : after ≡ entry_into entry space
 
@@ -48,17 +39,18 @@ are_entries marks (Some r) = is_end r.rest && leb (path_bytes r.value) max_path_
 
 -- ---- an image
 
-unfoldable pub image_answer : Option Image → ImageRead
-image_answer None = answer.Malformed
-image_answer (Some i) = answer.Image i.run i.number i.table.switches i.table.marks (length i.table.entries)
+unfoldable pub image_answer : Option Image → Option ImageRead
+image_answer None = None
+image_answer (Some i) =
+    Some (record { run = i.run; number = i.number; switches = i.table.switches; marks = i.table.marks; count = length i.table.entries })
 
--- an image was read, with a table of these switches, these marks and so many entries
-pub record IsRead (image : Option Image) (switches marks count : ℕ) : Type 0 where
+-- an image was read, with a table of the switches, the marks and the count that reading told
+pub record IsRead (image : Option Image) (told : ImageRead) : Type 0 where
   pub value : Image
   pub is : image ≡ Some value
-  pub same-switches : switches ≡ value.table.switches
-  pub same-marks : marks ≡ value.table.marks
-  pub same_count : count ≡ length value.table.entries
+  pub same-switches : told.switches ≡ value.table.switches
+  pub same-marks : told.marks ≡ value.table.marks
+  pub same_count : told.count ≡ length value.table.entries
 
 -- memory with the image's table put into it
 unfoldable pub loaded_by : Option Image → List ℕ → List ℕ

@@ -24,18 +24,20 @@ const ENTRY_UNIT: u32 = 0x4_0000;
 // The words before the first entry's.
 const IMAGE_HEAD: usize = 3;
 
-// What reading an entry answers: its kind, how many bytes its path has in the lent space, and where the words behind it begin; or that the
-// words are malformed.
+// An entry that was read: its kind, how many bytes its path has in the lent space, and where the words behind it begin.
 #[derive(Clone, Copy)]
-pub enum EntryRead {
-    Malformed,
-    Entry(Kind, usize, usize),
+pub struct EntryRead {
+    pub kind: Kind,
+    pub size: usize,
+    pub end: usize,
 }
 
-// What reading an image answers: its run, its number, the table's switches and marks, and how many entries it has; or that the words are malformed
-// or their content is no table.
+// An image that was read: its run, its number, the table's switches and marks, and how many entries it has.
 #[derive(Clone, Copy)]
-pub enum ImageRead {
-    Malformed,
-    Image(u32, u64, u8, u8, usize),
+pub struct ImageRead {
+    pub run: u32,
+    pub number: u64,
+    pub switches: u8,
+    pub marks: u8,
+    pub count: usize,
 }

@@ -4,7 +4,6 @@ use Rattle.paths.specs.Copying.{begun}
 use Rattle.table.specs.Acts.{Act}
 use Rattle.table.specs.Carrying.{action_of}
 use Rattle.records.specs.declared.Record.{Record}
-use Rattle.records.specs.declared.Record.TheVariants as answer
 use Rattle.records.specs.Records.{Change, Read, act_path, change_words}
 
 -- ---- writing
@@ -17,16 +16,22 @@ record_words run number (Some act) = change_words (record { run = run; number = 
 -- ---- reading
 
 -- a record that was read from `from` on: its run, its number, its act, its path's length, and where the words behind it begin
-unfoldable pub record_answer : ℕ → Option (Read Change) → Record
-record_answer from None = answer.Malformed
+unfoldable pub record_answer : ℕ → Option (Read Change) → Option Record
+record_answer from None = None
 record_answer from (Some r) =
-    answer.Change r.value.run r.value.number (action_of (Some r.value.act)) (length (act_path r.value.act)) (from + length (change_words r.value))
+    Some (record {
+      run = r.value.run;
+      number = r.value.number;
+      action = action_of (Some r.value.act);
+      size = length (act_path r.value.act);
+      end = from + length (change_words r.value);
+    })
 
 -- its path stands from the space's start, and no more of the space is written; malformed words leave it as it was
 unfoldable pub record_into : Option (Read Change) → List ℕ → List ℕ
 record_into None space = space
 record_into (Some r) space = begun (act_path r.value.act) space
 
-pub record ReadsRecord (from : ℕ) (first : Option (Read Change)) (space : List ℕ) (r : Record) (after : List ℕ) : Type 0 where
+pub record ReadsRecord (from : ℕ) (first : Option (Read Change)) (space : List ℕ) (r : Option Record) (after : List ℕ) : Type 0 where
   pub answer : r ≡ record_answer from first
   pub bytes : after ≡ record_into first space

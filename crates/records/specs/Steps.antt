@@ -8,11 +8,7 @@ use Rattle.table.specs.declared.Action.TheVariants.{SetSwitches}
 use Rattle.table.specs.Acts.{Act, revoke}
 use Rattle.table.specs.Carrying.{action_of}
 use Rattle.records.specs.declared.PathRead.{PathRead}
-use Rattle.records.specs.declared.PathRead.TheVariants as path-answer
 use Rattle.records.specs.declared.Record.{Record}
-use Rattle.records.specs.declared.Record.TheVariants as answer
-use Rattle.records.specs.declared.words.Word.{Word}
-use Rattle.records.specs.declared.words.Word.TheVariants.{Is, End}
 use Rattle.records.specs.Records.{Read, path_words, is_run_word, is_length, is_switches, low_of_word, insert_of, first, second, third, read_path}
 
 -- ---- a path's words by their places
@@ -28,15 +24,15 @@ word_bytes (w ∷ ws) = first w ∷ second w ∷ third w ∷ word_bytes ws
 
 -- ---- reading a path
 
--- the length that a word says; 0 is none
-unfoldable pub length_of : Word → ℕ
-length_of End = 0
-length_of (Is w) = cond (is_length w) (low_of_word w) 0
+-- the length that a word says, if it says one
+unfoldable pub length_of : Option ℕ → Option ℕ
+length_of None = None
+length_of (Some w) = cond (is_length w) (Some (low_of_word w)) None
 
 -- the path whose length a word says, from the words behind that word
-unfoldable pub path_behind : Word → List ℕ → Option (Read (List ℕ))
-path_behind End ws = None
-path_behind (Is w) ws = read_path (w ∷ ws)
+unfoldable pub path_behind : Option ℕ → List ℕ → Option (Read (List ℕ))
+path_behind None ws = None
+path_behind (Some w) ws = read_path (w ∷ ws)
 
 -- the words from `at` on begin with those of p, and p is in resolved form
 unfoldable pub is_path_at : List ℕ → ℕ → List ℕ → Bool
@@ -48,25 +44,25 @@ pub record HandsOver (words : List ℕ) (at : ℕ) (p space : List ℕ) (r : Boo
   pub bytes : after ≡ cond r (begun p space) space
 
 -- a path whose words begin at `at`: its length, and where the words behind it begin
-unfoldable pub path_answer : ℕ → Option (Read (List ℕ)) → PathRead
-path_answer at None = path-answer.Malformed
-path_answer at (Some r) = path-answer.Path (length r.value) (at + length (path_words r.value))
+unfoldable pub path_answer : ℕ → Option (Read (List ℕ)) → Option PathRead
+path_answer at None = None
+path_answer at (Some r) = Some (record { size = length r.value; end = at + length (path_words r.value) })
 
 -- it stands from the space's start, or the space is as it was
 unfoldable pub path_into : Option (Read (List ℕ)) → List ℕ → List ℕ
 path_into None space = space
 path_into (Some r) space = begun r.value space
 
-pub record ReadsPath (at : ℕ) (path : Option (Read (List ℕ))) (space : List ℕ) (r : PathRead) (after : List ℕ) : Type 0 where
+pub record ReadsPath (at : ℕ) (path : Option (Read (List ℕ))) (space : List ℕ) (r : Option PathRead) (after : List ℕ) : Type 0 where
   pub answer : r ≡ path_answer at path
   pub bytes : after ≡ path_into path space
 
 -- ---- the run
 
--- the run that a word says; 0 is none
-unfoldable pub run_of : Word → ℕ
-run_of End = 0
-run_of (Is w) = cond (is_run_word w) (low_of_word w) 0
+-- the run that a word says, if it says one
+unfoldable pub run_of : Option ℕ → Option ℕ
+run_of None = None
+run_of (Some w) = cond (is_run_word w) (Some (low_of_word w)) None
 
 -- ---- a record by the word behind its head
 
@@ -80,11 +76,13 @@ path_act (suc (suc (suc (suc zero)))) = insert_of P
 path_act (suc (suc (suc (suc (suc n))))) = revoke
 
 -- the record of a head that takes a path, by what reading the path answered
-unfoldable pub path_record : ℕ → ℕ → ℕ → PathRead → Record
-path_record run number act path-answer.Malformed = answer.Malformed
-path_record run number act (path-answer.Path n end) = answer.Change run number (action_of (Some (path_act act []))) n end
+unfoldable pub path_record : ℕ → ℕ → ℕ → Option PathRead → Option Record
+path_record run number act None = None
+path_record run number act (Some p) =
+    Some (record { run = run; number = number; action = action_of (Some (path_act act [])); size = p.size; end = p.end })
 
 -- the record of a head that takes switches, by the word behind it, and by where the words behind that begin
-unfoldable pub switches_record : ℕ → ℕ → Word → ℕ → Record
-switches_record run number End end = answer.Malformed
-switches_record run number (Is w) end = cond (is_switches w) (answer.Change run number (SetSwitches (low_of_word w)) 0 end) answer.Malformed
+unfoldable pub switches_record : ℕ → ℕ → Option ℕ → ℕ → Option Record
+switches_record run number None end = None
+switches_record run number (Some w) end =
+    cond (is_switches w) (Some (record { run = run; number = number; action = SetSwitches (low_of_word w); size = 0; end = end })) None

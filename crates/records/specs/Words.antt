@@ -1,16 +1,14 @@
 -- Words one after another: what stands at a place, where a reader is after it, and what a record or an image begins with. Scope, "Handover, at the top": a record is
 -- read word after word from the lent words.
-use Rattle.std.specs.Prelude.{ℕ, ◌+◌, ◌-◌, List, [], ◌∷◌, length, drop}
-use Rattle.records.specs.declared.words.Word.{Word}
-use Rattle.records.specs.declared.words.Word.TheVariants.{Is, End}
+use Rattle.std.specs.Prelude.{ℕ, ◌+◌, ◌-◌, List, [], ◌∷◌, length, drop, Option, None, Some}
 use Rattle.records.specs.declared.words.WordRead.{WordRead}
 use Rattle.records.specs.declared.words.Reader.{Reader}
 use Rattle.records.specs.declared.words.Front.{Front}
 
 -- what words begin with
-unfoldable pub first_word : List ℕ → Word
-first_word [] = End
-first_word (w ∷ ws) = Is w
+unfoldable pub first_word : List ℕ → Option ℕ
+first_word [] = None
+first_word (w ∷ ws) = Some w
 
 -- the place behind it, for words from `at` on; at the end the place stays
 unfoldable pub behind_first : List ℕ → ℕ → ℕ

@@ -35,17 +35,19 @@ pub const RECORD_WORDS: usize = 345;
 // Room for the bytes of as many words as the longest path takes.
 const PATH_ROOM: usize = 1026;
 
-// What reading a record answers: its run, its number, its act, how many bytes its path has in the lent space, and where the words behind it
-// begin; or that the words are malformed.
+// A record that was read: its run, its number, its act, how many bytes its path has in the lent space, and where the words behind it begin.
 #[derive(Clone, Copy)]
-pub enum Record {
-    Malformed,
-    Change(u32, u64, Action, usize, usize),
+pub struct Record {
+    pub run: u32,
+    pub number: u64,
+    pub action: Action,
+    pub size: usize,
+    pub end: usize,
 }
 
-// What reading a path answers: how many bytes it has, and where the words behind it begin; or that the words are malformed.
+// A path that was read: how many bytes it has, and where the words behind it begin.
 #[derive(Clone, Copy)]
-pub enum PathRead {
-    Malformed,
-    Path(usize, usize),
+pub struct PathRead {
+    pub size: usize,
+    pub end: usize,
 }

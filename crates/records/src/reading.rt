@@ -6,9 +6,9 @@ ghost use Rattle.paths.specs.Resolving.{max_path};
 ghost use Rattle.table.specs.Carrying.{action_of};
 ghost use Rattle.records.specs.Records.{path_words, bytes_from, if_resolved, read_first};
 ghost use Rattle.records.specs.Answers.{ReadsRecord};
-ghost use Rattle.records.specs.Steps.{words_for, word_bytes, run_of, length_of, HandsOver, path_behind, ReadsPath, path_act, path_record, switches_record};
+ghost use Rattle.records.specs.Steps.{words_for, word_bytes, run_of, length_of, HandsOver, path_behind, ReadsPath, path_act, switches_record};
 
-use crate::words::{Word, read_front};
+use crate::words::read_front;
 use crate::writing::{path_word, words_for};
 use crate::{ACT_UNIT, KIND_UNIT, LENGTH, PATH_ROOM, PathRead, RUN, Record, SWITCHES};
 use paths::MAX_PATH;
@@ -16,34 +16,22 @@ use paths::copying::copy_in;
 use paths::resolving::is_resolved;
 use table::{Action, Kind, MAX_SWITCHES};
 
-// The run that a word says, or 0 if it is no run word.
-pub fn run_of(word: Word) -> u32
+// The run that a word says, if it is a run word.
+pub fn run_of(word: Option<u32>) -> Option<u32>
     ensures { result ≡ run_of word }
 {
-    let Word::Is(word) = word else {
-        return 0;
-    };
-    if word / KIND_UNIT != RUN {
-        return 0;
-    }
-    word % KIND_UNIT
+    let word = word?;
+    let run = word % KIND_UNIT;
+    (word / KIND_UNIT == RUN && run >= 1).then_some(run)
 }
 
-// The path length that a word says, or 0 if it is no length word.
-fn path_length(word: Word) -> usize
+// The path length that a word says, if it is a length word.
+fn path_length(word: Option<u32>) -> Option<usize>
     ensures { result ≡ length_of word }
 {
-    let Word::Is(word) = word else {
-        return 0;
-    };
-    if word / KIND_UNIT != LENGTH {
-        return 0;
-    }
+    let word = word?;
     let n = (word % KIND_UNIT) as usize;
-    if n > MAX_PATH {
-        return 0;
-    }
-    n
+    (word / KIND_UNIT == LENGTH && n >= 1 && n <= MAX_PATH).then_some(n)
 }
 
 // Takes three bytes out of each of some words, whatever their kinds.
@@ -83,14 +71,11 @@ fn hand_over(words: &[u32], at: usize, p: &[u8], space: &mut [u8; MAX_PATH]) -> 
     requires { (length p.now ≤ max_path) × (at + words_for (length p.now) ≤ length words.now) }
     ensures { HandsOver words.now at p.now space.old result space.new }
 {
-    if !are_words_of(words, at, p) {
-        return false;
+    let own = are_words_of(words, at, p) && is_resolved(p);
+    if own {
+        copy_in(space, 0, p);
     }
-    if !is_resolved(p) {
-        return false;
-    }
-    copy_in(space, 0, p);
-    true
+    own
 }
 
 // Reads a path of n bytes into the lent space: its words begin at a place, behind which so many words are left. The path is put there only
@@ -101,37 +86,34 @@ pub fn read_path_of(
     at: usize,
     left: usize,
     space: &mut [u8; MAX_PATH],
-) -> PathRead
+) -> Option<PathRead>
     requires { (1 ≤ n) × (n ≤ max_path) × (left ≡ length words.now - at) }
     ensures { ReadsPath at (if_resolved (bytes_from n (drop at words.now))) space.old result space.new }
 {
     let count = words_for(n);
     if left < count {
-        return PathRead::Malformed;
+        return None;
     }
     let mut work = [0u8; PATH_ROOM];
     take_bytes(words, at, count, &mut work);
-    if !hand_over(words, at, &work[0..n], space) {
-        return PathRead::Malformed;
-    }
-    PathRead::Path(n, at + count)
+    hand_over(words, at, &work[..n], space).then_some(PathRead {
+        size: n,
+        end: at + count,
+    })
 }
 
 // Reads a path whose length is what the word behind the head says.
 fn read_path(
     words: &[u32],
-    next: Word,
+    next: Option<u32>,
     at: usize,
     left: usize,
     space: &mut [u8; MAX_PATH],
-) -> PathRead
+) -> Option<PathRead>
     requires { left ≡ length words.now - at }
     ensures { ReadsPath at (path_behind next (drop at words.now)) space.old result space.new }
 {
-    let n = path_length(next);
-    if n == 0 {
-        return PathRead::Malformed;
-    }
+    let n = path_length(next)?;
     read_path_of(words, n, at, left, space)
 }
 
@@ -148,63 +130,56 @@ fn path_action(act: u8) -> Action
     }
 }
 
-// The record of a head that takes a path, by what reading the path answered.
-fn with_path(run: u32, number: u64, act: u8, path: PathRead) -> Record
-    ensures { result ≡ path_record run number act path }
-{
-    let PathRead::Path(n, end) = path else {
-        return Record::Malformed;
-    };
-    Record::Change(run, number, path_action(act), n, end)
-}
-
 // The record of a head that takes switches, which the word behind it says; the words behind that begin at `end`.
-fn with_switches(run: u32, number: u64, next: Word, end: usize) -> Record
+fn with_switches(run: u32, number: u64, next: Option<u32>, end: usize) -> Option<Record>
     ensures { result ≡ switches_record run number next end }
 {
-    let Word::Is(word) = next else {
-        return Record::Malformed;
-    };
-    if word / KIND_UNIT != SWITCHES {
-        return Record::Malformed;
-    }
+    let word = next?;
     let switches = word % KIND_UNIT;
-    if switches > MAX_SWITCHES as u32 {
-        return Record::Malformed;
+    if word / KIND_UNIT != SWITCHES || switches > u32::from(MAX_SWITCHES) {
+        return None;
     }
-    Record::Change(run, number, Action::SetSwitches(switches as u8), 0, end)
+    Some(Record {
+        run,
+        number,
+        action: Action::SetSwitches(switches as u8),
+        size: 0,
+        end,
+    })
 }
 
 // Reads the record that the words from a place on begin with, and its path into the lent space. A head's kind and act bits together
 // decide what must follow it.
-pub fn read_record(words: &[u32], from: usize, space: &mut [u8; MAX_PATH]) -> Record
+pub fn read_record(words: &[u32], from: usize, space: &mut [u8; MAX_PATH]) -> Option<Record>
     ensures { ReadsRecord from (read_first (drop from words.now)) space.old result space.new }
 {
     let front = read_front(words, from);
-    let before = front.run;
-    let run = run_of(before);
-    if run == 0 {
-        return Record::Malformed;
-    }
-    let first = front.head;
-    let Word::Is(head) = first else {
-        return Record::Malformed;
-    };
-    let number = (head % ACT_UNIT) as u64;
+    let run = run_of(front.run)?;
+    let head = front.head?;
+    let number = u64::from(head % ACT_UNIT);
     if number == 0 {
-        return Record::Malformed;
+        return None;
     }
-    let next = front.next;
     let top = (head / ACT_UNIT) as u8;
     match top {
-        0x11..=0x14 | 0x16 => with_path(
+        0x11..=0x14 | 0x16 => {
+            let path = read_path(words, front.next, front.at, front.left, space)?;
+            Some(Record {
+                run,
+                number,
+                action: path_action(top % 16),
+                size: path.size,
+                end: path.end,
+            })
+        }
+        0x15 => with_switches(run, number, front.next, front.at),
+        0x17 => Some(Record {
             run,
             number,
-            top % 16,
-            read_path(words, next, front.at, front.left, space),
-        ),
-        0x15 => with_switches(run, number, next, front.at),
-        0x17 => Record::Change(run, number, Action::RevokeAll, 0, from + 2),
-        0..=0x10 | 0x18..=0xFF => Record::Malformed,
+            action: Action::RevokeAll,
+            size: 0,
+            end: from + 2,
+        }),
+        _ => None,
     }
 }

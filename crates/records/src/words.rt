@@ -9,26 +9,19 @@ pub struct Reader<'a> {
     pub at: usize,
 }
 
-// What stands at a place: a word, or behind the last one the end.
-#[derive(Clone, Copy)]
-pub enum Word {
-    Is(u32),
-    End,
-}
-
-// What was read at a place, and the place behind it.
+// What was read at a place, a word or behind the last one nothing, and the place behind it.
 #[derive(Clone, Copy)]
 pub struct WordRead {
-    pub word: Word,
+    pub word: Option<u32>,
     pub at: usize,
 }
 
 // What a record or an image begins with: its run word, its head, the word behind that, the place behind all three, and how many words are left there.
 #[derive(Clone, Copy)]
 pub struct Front {
-    pub run: Word,
-    pub head: Word,
-    pub next: Word,
+    pub run: Option<u32>,
+    pub head: Option<u32>,
+    pub next: Option<u32>,
     pub at: usize,
     pub left: usize,
 }
@@ -37,16 +30,12 @@ pub struct Front {
 pub fn read_at(words: &[u32], at: usize) -> WordRead
     ensures { result ≡ read_at words.now at }
 {
-    if at < words.len() {
-        WordRead {
-            word: Word::Is(words[at]),
+    match words.get(at) {
+        Some(word) => WordRead {
+            word: Some(*word),
             at: at + 1,
-        }
-    } else {
-        WordRead {
-            word: Word::End,
-            at,
-        }
+        },
+        None => WordRead { word: None, at },
     }
 }
 
@@ -54,41 +43,39 @@ pub fn read_at(words: &[u32], at: usize) -> WordRead
 pub fn left_at(words: &[u32], at: usize) -> usize
     ensures { result ≡ length words.now - at }
 {
-    if at < words.len() {
-        words.len() - at
-    } else {
-        0
+    words.len().saturating_sub(at)
+}
+
+impl<'a> Reader<'a> {
+    // A reader of the words from a place on.
+    pub fn new(words: &'a [u32], at: usize) -> Reader<'a>
+        ensures { (result.words ≡ words.entry) × (result.at ≡ at) }
+    {
+        Reader { words, at }
     }
-}
 
-// A reader of the words from a place on.
-pub fn reader_at<'a>(words: &'a [u32], at: usize) -> Reader<'a>
-    ensures { (result.words ≡ words.entry) × (result.at ≡ at) }
-{
-    Reader { words, at }
-}
+    // The next word, if there is one; the reader moves on, and its words stay.
+    pub fn next(&mut self) -> Option<u32>
+        ensures { (result ≡ (read_at self.old.words.now self.old.at).word) × (self.new ≡ past self.old) }
+    {
+        let read = read_at(self.words, self.at);
+        self.at = read.at;
+        read.word
+    }
 
-// The next word, if there is one; the reader moves on, and its words stay.
-pub fn next<'s, 'a>(reader: &'s mut Reader<'a>) -> Word
-    ensures { (result ≡ (read_at reader.old.words.now reader.old.at).word) × (reader.new ≡ past reader.old) }
-{
-    let read = read_at(reader.words, reader.at);
-    reader.at = read.at;
-    read.word
-}
+    // Where a reader stands.
+    pub fn place(self) -> usize
+        ensures { result ≡ self.entry.at }
+    {
+        self.at
+    }
 
-// Where a reader stands.
-pub fn place<'a>(reader: Reader<'a>) -> usize
-    ensures { result ≡ reader.entry.at }
-{
-    reader.at
-}
-
-// How many words a reader has left.
-pub fn left<'a>(reader: Reader<'a>) -> usize
-    ensures { result ≡ length reader.entry.words.now - reader.entry.at }
-{
-    left_at(reader.words, reader.at)
+    // How many words a reader has left.
+    pub fn left(self) -> usize
+        ensures { result ≡ length self.entry.words.now - self.entry.at }
+    {
+        left_at(self.words, self.at)
+    }
 }
 
 // Reads what a record or an image begins with. All three words are read whatever they say, for at the end reading gives nothing: which of them it
@@ -96,17 +83,15 @@ pub fn left<'a>(reader: Reader<'a>) -> usize
 pub fn read_front(words: &[u32], from: usize) -> Front
     ensures { result ≡ front_at words.now from }
 {
-    let mut reader = reader_at(words, from);
-    let run = next(&mut reader);
-    let head = next(&mut reader);
-    let behind = next(&mut reader);
-    let at = place(reader);
-    let left = left(reader);
+    let mut reader = Reader::new(words, from);
+    let run = reader.next();
+    let head = reader.next();
+    let next = reader.next();
     Front {
         run,
         head,
-        next: behind,
-        at,
-        left,
+        next,
+        at: reader.place(),
+        left: reader.left(),
     }
 }

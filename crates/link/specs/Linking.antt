@@ -1,6 +1,6 @@
 -- The link in a call's checking order: the record space (2) and the run number (3) of a linked call, the numbers that its acts take, and causes 8 and 9.
 -- A plain call passes 2, 3 and 9. Scope, "A call comes in".
-use Rattle.std.specs.Prelude.{ℕ, zero, suc, ◌+◌, ◌*◌, List, [], ◌∷◌, Bool, false, not, length, leb, ltb, Unit, tt, Option, None, Some, Ok, Err}
+use Rattle.std.specs.Prelude.{ℕ, zero, suc, ◌+◌, ◌*◌, List, [], ◌∷◌, Bool, false, not, length, leb, ltb, Option, None, Some, Ok, Err}
 use Rattle.refusals.specs.declared.Refusal.{Refusal}
 use Rattle.refusals.specs.declared.Refusal.TheVariants.{NoSpace, Unknown, TableFull, NumbersUsedUp}
 use Rattle.refusals.specs.Refusals.{when, first_cause, Result, unless}

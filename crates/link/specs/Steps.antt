@@ -1,5 +1,5 @@
 -- Steps of a call that may be linked: an act that is carried out and, where the call is linked, recorded.
-use Rattle.std.specs.Prelude.{ℕ, ◌+◌, ◌≤◌, ◌≡◌, List, Bool, true, false, cond, length, Unit, tt, Option, None, Some, Ok, Err}
+use Rattle.std.specs.Prelude.{ℕ, ◌+◌, ◌≤◌, ◌≡◌, List, Bool, true, false, cond, length, Option, None, Some, Ok, Err}
 use Rattle.refusals.specs.declared.Refusal.{Refusal}
 use Rattle.refusals.specs.declared.Refusal.TheVariants.{TableFull, NumbersUsedUp}
 use Rattle.refusals.specs.Refusals.{Result, unless}

@@ -1,5 +1,5 @@
 -- Laws of the answer: an absolute path, a bad working directory, the resolved path handed over, and the first cause.
-use Rattle.std.specs.Prelude.{Option, None, Some}
+use Rattle.std.specs.Prelude.{None, Some, Ok, Err}
 use Prim.Native.Nat.{ℕ, ◌+◌, ◌≤◌, ◌<◌}
 use mathlib.Core.Path.{◌≡◌, refl, sym, ap, ◌∙◌, subst}
 use mathlib.Core.List.{List, [], ◌∷◌}
@@ -13,10 +13,8 @@ use borrow.Author.Tests.{lt-ltb, le-ltb, ltb-false}
 use Rattle.paths.specs.Components.{slash, same, pieces, slashed, spell}
 use Rattle.refusals.specs.declared.Refusal.{Refusal}
 use Rattle.refusals.specs.declared.Refusal.TheVariants.{EmptyPath, PathTooLong, BadDirectory, ResolvedTooLong}
-use Rattle.refusals.specs.Refusals.{first_cause}
-use Rattle.refusals.proofs.CauseLaws.{no-cause-head, no-cause-tail}
-use Rattle.paths.specs.declared.Resolution.{Resolution}
-use Rattle.paths.specs.declared.Resolution.TheVariants.{Resolved, Refused}
+use Rattle.refusals.specs.Refusals.{first_cause, Result, unless}
+use Rattle.refusals.proofs.CauseLaws.{no-cause-head, no-cause-tail, unless-ok, unless-refused}
 use Rattle.paths.specs.Resolving.{
   is_absolute,
   join,
@@ -26,7 +24,6 @@ use Rattle.paths.specs.Resolving.{
   max_path,
   is_bad_directory,
   path_conditions,
-  answered,
   space_after,
   resolution,
   resolved_into,
@@ -118,19 +115,19 @@ spelled p cwd = rooted-slashed (enter_all [] (pieces (join cwd p)))
 
 -- a path that is too long, and one that is not and is written into the space
 module _ (path space : List ℕ) where
-  answers-long : max_path < length path → Answers path (too_long path) space (Refused ResolvedTooLong) space
-  unfolding too_long first_cause answered space_after
+  answers-long : max_path < length path → Answers path (too_long path) space (Err ResolvedTooLong) space
+  unfolding too_long first_cause unless space_after
   answers-long h = record { answer = rw (lt-ltb max_path (length path) h); bytes = rw (lt-ltb max_path (length path) h) }
 
-  answers-path : {after : List ℕ} → length path ≤ max_path → after ≡ overwrite space 0 path → Answers path (too_long path) space (Resolved (length path)) after
-  unfolding too_long first_cause answered space_after overwrite
+  answers-path : {after : List ℕ} → length path ≤ max_path → after ≡ overwrite space 0 path → Answers path (too_long path) space (Ok (length path)) after
+  unfolding too_long first_cause unless space_after overwrite
   answers-path h e = record {
     answer = rw (le-ltb max_path (length path) h);
     bytes = e ∙ rw (le-ltb max_path (length path) h, zero-add (length path));
   }
 
 pub handed-root : (w space : List ℕ) (len : ℕ) {after : List ℕ} → len ≡ 0 → after ≡ overwrite space 0 (slash ∷ [])
-    → Answers (rooted (take len w)) (too_long (rooted (take len w))) space (Resolved 1) after
+    → Answers (rooted (take len w)) (too_long (rooted (take len w))) space (Ok 1) after
 unfolding rooted
 handed-root w space len z e = rw z (answers-path (slash ∷ []) space (omega arith) e)
 
@@ -138,34 +135,34 @@ module _ (w space : List ℕ) (len : ℕ) (h : len ≤ length w) where
   whole : 0 < len → rooted (take len w) ≡ take len w
   whole k = rooted-some (take len w) (omega (arith, length-take-le len w h))
 
-  pub handed-long : max_path < len → Answers (rooted (take len w)) (too_long (rooted (take len w))) space (Refused ResolvedTooLong) space
+  pub handed-long : max_path < len → Answers (rooted (take len w)) (too_long (rooted (take len w))) space (Err ResolvedTooLong) space
   handed-long k = rw (whole (omega arith)) (answers-long (take len w) space (omega (arith, length-take-le len w h)))
 
   pub handed-path : {after : List ℕ} → (len ≡ 0 → ⊥) → len ≤ max_path → after ≡ overwrite space 0 (take len w)
-      → Answers (rooted (take len w)) (too_long (rooted (take len w))) space (Resolved len) after
+      → Answers (rooted (take len w)) (too_long (rooted (take len w))) space (Ok len) after
   handed-path {after = after} z k e =
       rw (whole (omega arith))
-      (subst (λ (n : ℕ). Answers (take len w) (too_long (take len w)) space (Resolved n) after)
+      (subst (λ (n : ℕ). Answers (take len w) (too_long (take len w)) space (Ok n) after)
       (length-take-le len w h) (answers-path (take len w) space (omega (arith, length-take-le len w h)) e))
 
 -- ---- the first cause
 
 module _ (p cwd space : List ℕ) where
-  pub resolves-empty : length p ≡ 0 → Resolves p cwd space (Refused EmptyPath) space
-  unfolding resolution resolved_into path_conditions first_cause answered space_after
+  pub resolves-empty : length p ≡ 0 → Resolves p cwd space (Err EmptyPath) space
+  unfolding resolution resolved_into path_conditions first_cause unless space_after
   resolves-empty h = record { answer = rw (same-empty p h); bytes = rw (same-empty p h) }
 
   module _ (Some : length p ≡ 0 → ⊥) where
-    pub resolves-long : max_path < length p → Resolves p cwd space (Refused PathTooLong) space
-    unfolding resolution resolved_into path_conditions first_cause answered space_after
+    pub resolves-long : max_path < length p → Resolves p cwd space (Err PathTooLong) space
+    unfolding resolution resolved_into path_conditions first_cause unless space_after
     resolves-long h = record {
       answer = rw (other_length p [] Some, lt-ltb max_path (length p) h);
       bytes = rw (other_length p [] Some, lt-ltb max_path (length p) h);
     }
 
     module _ (short : length p ≤ max_path) where
-      pub resolves-bad : is_bad_directory p cwd ≡ true → Resolves p cwd space (Refused BadDirectory) space
-      unfolding resolution resolved_into path_conditions first_cause answered space_after
+      pub resolves-bad : is_bad_directory p cwd ≡ true → Resolves p cwd space (Err BadDirectory) space
+      unfolding resolution resolved_into path_conditions first_cause unless space_after
       resolves-bad e = record {
         answer = rw (other_length p [] Some, le-ltb max_path (length p) short, e);
         bytes = rw (other_length p [] Some, le-ltb max_path (length p) short, e);
@@ -175,7 +172,7 @@ module _ (p cwd space : List ℕ) where
       unfolding path_conditions first_cause too_long
       last-cause e = rw (other_length p [] Some, le-ltb max_path (length p) short, e)
 
-      pub resolves-path : {w : List ℕ} {n : ℕ} {r : Resolution} {after : List ℕ} → is_bad_directory p cwd ≡ false
+      pub resolves-path : {w : List ℕ} {n : ℕ} {r : Result ℕ} {after : List ℕ} → is_bad_directory p cwd ≡ false
           → Begins w n 2050 (slashed (enter_all [] (pieces (join cwd p)))) → Answers (rooted (take n w)) (too_long (rooted (take n w))) space r after
           → Resolves p cwd space r after
       unfolding resolution resolved_into
@@ -194,30 +191,20 @@ pub record Given (p cwd : List ℕ) (n : ℕ) : Type 0 where
   pub size : length (resolve p cwd) ≡ n
   pub short : n ≤ max_path
 
-resolved-by : (path : List ℕ) (n : ℕ) (cause : Option Refusal) → answered path cause ≡ Resolved n → (cause ≡ None) × (length path ≡ n)
-unfolding answered
-resolved-by path n None e = (refl, cc)
-resolved-by path n (Some c) e = let z : ◌≡◌ {A = ℕ} 0 1 = cc in absurd (omega arith)
-
-refused-by : (path : List ℕ) (c : Refusal) (cause : Option Refusal) → answered path cause ≡ Refused c → cause ≡ Some c
-unfolding answered
-refused-by path c None e = let z : ◌≡◌ {A = ℕ} 0 1 = cc in absurd (omega arith)
-refused-by path c (Some d) e = cc
-
 pub no-cause-short : (p cwd : List ℕ) → first_cause (path_conditions p cwd) ≡ None → length (resolve p cwd) ≤ max_path
 unfolding path_conditions
 no-cause-short p cwd e =
     ltb-false _ _ (no-cause-head _ _ _ (no-cause-tail _ _ _ (no-cause-tail _ _ _ (no-cause-tail _ _ _ e))))
 
-pub resolution-resolved : (p cwd : List ℕ) (n : ℕ) → resolution p cwd ≡ Resolved n → Given p cwd n
+pub resolution-resolved : (p cwd : List ℕ) (n : ℕ) → resolution p cwd ≡ Ok n → Given p cwd n
 unfolding resolution
 resolution-resolved p cwd n e =
-    let b = resolved-by (resolve p cwd) n (first_cause (path_conditions p cwd)) e in
+    let b = unless-ok (first_cause (path_conditions p cwd)) (length (resolve p cwd)) e in
     record { free = b.0; size = b.1; short = omega (arith, no-cause-short p cwd b.0, b.1) }
 
-pub resolution-refused : (p cwd : List ℕ) (c : Refusal) → resolution p cwd ≡ Refused c → first_cause (path_conditions p cwd) ≡ Some c
+pub resolution-refused : (p cwd : List ℕ) (c : Refusal) → resolution p cwd ≡ Err c → first_cause (path_conditions p cwd) ≡ Some c
 unfolding resolution
-resolution-refused p cwd c e = refused-by (resolve p cwd) c (first_cause (path_conditions p cwd)) e
+resolution-refused p cwd c e = unless-refused (first_cause (path_conditions p cwd)) (length (resolve p cwd)) e
 
 -- the lent space begins with the resolved path
 pub given-space : (p cwd space after : List ℕ) (n : ℕ) → Given p cwd n → after ≡ resolved_into p cwd space → take n after ≡ resolve p cwd

@@ -8,29 +8,26 @@ use native.Mathlib.Omega.{arith}
 use lib.ListN.{length, take}
 use borrow.Author.Tests.{le-leb, ltb-false}
 use Rattle.refusals.specs.declared.Refusal.{Refusal}
-use Rattle.refusals.specs.Refusals.{first_cause, and_then, unless}
+use Rattle.refusals.specs.Refusals.{first_cause, Result, and_then, unless}
 use Rattle.refusals.proofs.CauseLaws.{no-cause-head, no-cause-tail, unless-ok}
 use Rattle.paths.specs.declared.Descriptor.{Descriptor}
 use Rattle.paths.specs.declared.Descriptor.TheVariants.{NoPath, Path}
-use Rattle.paths.specs.declared.Resolution.{Resolution}
-use Rattle.paths.specs.declared.Resolution.TheVariants.{Resolved, Refused}
 use Rattle.paths.specs.declared.Comparison.{Comparison}
-use Rattle.paths.specs.declared.Compared.TheVariants as compared
 use Rattle.paths.specs.Resolving.{max_path, resolve, path_conditions, resolved_into, Resolves}
 use Rattle.paths.specs.Giving.{is_path, resolved, Query, is_query, query_of, given, given_size, given_resolution, given_into, Gives}
 use Rattle.paths.specs.Relations.{comparison}
-use Rattle.paths.specs.Comparing.{compare_call, compared_of, compare_answer}
+use Rattle.paths.specs.Comparing.{compare_call}
 use Rattle.paths.proofs.ComponentLaws.{and_both}
 use Rattle.paths.proofs.ResolvingLaws.{resolve-resolved}
 use Rattle.paths.proofs.Answering.{Given, no-cause-short, resolution-resolved, resolution-refused, given-space, given-room}
 
 -- ---- the code's answer
 
-pub gives_none : {d : Descriptor} (p cwd space : List ℕ) → d ≡ NoPath → Gives d p cwd space (Resolved 0) space
+pub gives_none : {d : Descriptor} (p cwd space : List ℕ) → d ≡ NoPath → Gives d p cwd space (Ok 0) space
 unfolding given_resolution given_into
 gives_none p cwd space e = rw e (record { answer = refl; bytes = refl })
 
-pub gives-path : {d : Descriptor} {p cwd space after : List ℕ} {r : Resolution} → d ≡ Path → Resolves p cwd space r after → Gives d p cwd space r after
+pub gives-path : {d : Descriptor} {p cwd space after : List ℕ} {r : Result ℕ} → d ≡ Path → Resolves p cwd space r after → Gives d p cwd space r after
 unfolding given_resolution given_into
 gives-path e R = rw e (record { answer = R.answer; bytes = R.bytes })
 
@@ -85,29 +82,29 @@ path-stands p cwd space after n g e =
 
 -- ---- what the code's answer tells, of a path that is resolved by itself
 
-module _ {p cwd space after : List ℕ} {r : Resolution} (R : Resolves p cwd space r after) where
-  pub resolves-refused : {cause : Refusal} → r ≡ Refused cause → resolved p cwd ≡ Err cause
+module _ {p cwd space after : List ℕ} {r : Result ℕ} (R : Resolves p cwd space r after) where
+  pub resolves-refused : {cause : Refusal} → r ≡ Err cause → resolved p cwd ≡ Err cause
   unfolding resolved unless
   resolves-refused {cause} e = rw (resolution-refused p cwd cause (sym R.answer ∙ e))
 
-  resolves-given : {n : ℕ} → r ≡ Resolved n → Given p cwd n
+  resolves-given : {n : ℕ} → r ≡ Ok n → Given p cwd n
   resolves-given {n} e = resolution-resolved p cwd n (sym R.answer ∙ e)
 
-  pub resolves-ok : {n : ℕ} → r ≡ Resolved n → resolved p cwd ≡ Ok (take n after)
+  pub resolves-ok : {n : ℕ} → r ≡ Ok n → resolved p cwd ≡ Ok (take n after)
   unfolding resolved unless
   resolves-ok {n} e = let g = resolves-given e in rw (g.free, given-space p cwd space after n g R.bytes)
 
-  pub resolves-room : {n : ℕ} → r ≡ Resolved n → n ≤ length after
+  pub resolves-room : {n : ℕ} → r ≡ Ok n → n ≤ length after
   resolves-room {n} e = given-room p cwd space after n (resolves-given e) R.bytes
 
 -- ---- and of what is given
 
-module _ {p cwd space after : List ℕ} {r : Resolution} where
-  none-zero : {n : ℕ} → Gives NoPath p cwd space r after → r ≡ Resolved n → 0 ≡ n
+module _ {p cwd space after : List ℕ} {r : Result ℕ} where
+  none-zero : {n : ℕ} → Gives NoPath p cwd space r after → r ≡ Ok n → 0 ≡ n
   unfolding given_resolution
   none-zero S e = cc S.answer
 
-  none-refused : {cause : Refusal} → Gives NoPath p cwd space r after → r ≡ Refused cause → given NoPath p cwd ≡ Err cause
+  none-refused : {cause : Refusal} → Gives NoPath p cwd space r after → r ≡ Err cause → given NoPath p cwd ≡ Err cause
   unfolding given_resolution
   none-refused S e = let z : ◌≡◌ {A = ℕ} 0 1 = cc S.answer in absurd (omega arith)
 
@@ -115,37 +112,37 @@ module _ {p cwd space after : List ℕ} {r : Resolution} where
   unfolding given_resolution given_into
   path-resolves S = record { answer = S.answer; bytes = S.bytes }
 
-  path-refused : {cause : Refusal} → Gives Path p cwd space r after → r ≡ Refused cause → given Path p cwd ≡ Err cause
+  path-refused : {cause : Refusal} → Gives Path p cwd space r after → r ≡ Err cause → given Path p cwd ≡ Err cause
   unfolding given and_then
   path-refused S e = rw (resolves-refused (path-resolves S) e)
 
-  path-given : {n : ℕ} → Gives Path p cwd space r after → r ≡ Resolved n → Stands Path p cwd n after
+  path-given : {n : ℕ} → Gives Path p cwd space r after → r ≡ Ok n → Stands Path p cwd n after
   path-given {n} S e = let R = path-resolves S in path-stands p cwd space after n (resolves-given R e) R.bytes
 
-pub gives-refused : {d : Descriptor} {p cwd space after : List ℕ} {r : Resolution} {cause : Refusal}
-    → Gives d p cwd space r after → r ≡ Refused cause → given d p cwd ≡ Err cause
+pub gives-refused : {d : Descriptor} {p cwd space after : List ℕ} {r : Result ℕ} {cause : Refusal}
+    → Gives d p cwd space r after → r ≡ Err cause → given d p cwd ≡ Err cause
 gives-refused {d = NoPath} S e = none-refused S e
 gives-refused {d = Path} S e = path-refused S e
 
-pub gives-stands : {d : Descriptor} {p cwd space after : List ℕ} {r : Resolution} {n : ℕ}
-    → Gives d p cwd space r after → r ≡ Resolved n → Stands d p cwd n after
+pub gives-stands : {d : Descriptor} {p cwd space after : List ℕ} {r : Result ℕ} {n : ℕ}
+    → Gives d p cwd space r after → r ≡ Ok n → Stands d p cwd n after
 gives-stands {d = NoPath} {p = p} {cwd = cwd} {after = after} S e = subst (λ (n : ℕ). Stands NoPath p cwd n after) (none-zero S e) (none-stands p cwd after)
 gives-stands {d = Path} S e = path-given S e
 
 -- ---- two paths that are compared
 
 module _ (p q cwd : List ℕ) where
-  pub compare-first : {cause : Refusal} → resolved p cwd ≡ Err cause → compared.Refused cause ≡ compare_answer p q cwd
-  unfolding compare_answer compare_call compared_of and_then
+  pub compare-first : {cause : Refusal} → resolved p cwd ≡ Err cause → Err cause ≡ compare_call p q cwd
+  unfolding compare_call and_then
   compare-first e = rw e
 
-  pub compare-second : {a : List ℕ} {cause : Refusal} → resolved p cwd ≡ Ok a → resolved q cwd ≡ Err cause → compared.Refused cause ≡ compare_answer p q cwd
-  unfolding compare_answer compare_call compared_of and_then
+  pub compare-second : {a : List ℕ} {cause : Refusal} → resolved p cwd ≡ Ok a → resolved q cwd ≡ Err cause → Err cause ≡ compare_call p q cwd
+  unfolding compare_call and_then
   compare-second e f = rw (e, f)
 
   pub compare-found : {a b : List ℕ} {r : Comparison} → resolved p cwd ≡ Ok a → resolved q cwd ≡ Ok b → r ≡ comparison a b
-      → compared.Comparison r ≡ compare_answer p q cwd
-  unfolding compare_answer compare_call compared_of and_then
+      → Ok r ≡ compare_call p q cwd
+  unfolding compare_call and_then
   compare-found e f g = rw (e, f, g)
 
 -- ---- what follows from what is given

@@ -42,6 +42,12 @@ unfolding unless
 unless-ok None a e = (refl, cc)
 unless-ok (Some cause) a e = let z : ◌≡◌ {A = ℕ} 0 1 = cc in absurd (omega arith)
 
+-- what refuses is the cause
+pub unless-refused : {A : Type 0} (cause : Option Refusal) (a : A) {c : Refusal} → unless cause a ≡ Err c → cause ≡ Some c
+unfolding unless
+unless-refused None a e = cc
+unless-refused (Some cause) a e = cc
+
 -- ---- what a checking order hands on, if anything, has P
 
 pub data Hands {A : Type 0} (P : A → Type 0) : Result A → Type 0 where

@@ -15,12 +15,10 @@ use Rattle.link.specs.declared.Link.{Link}
 use Rattle.link.specs.Linking.{room_in, Numbering, numbering, run_in, carry_cause}
 use Rattle.link.specs.Sending.{Lent, Sends}
 use Rattle.link.specs.Steps.{Records}
-use Rattle.walk.specs.declared.Answer.{Answer}
-use Rattle.walk.specs.declared.Answer.TheVariants as answer
+use Rattle.walk.specs.declared.PermissionState.{PermissionState}
 use Rattle.deciding.specs.declared.PromptResponse.{PromptResponse}
 use Rattle.deciding.specs.declared.Call.{Call}
 use Rattle.calls.specs.declared.Settled.{Settled}
-use Rattle.calls.specs.declared.Settled.TheVariants as settled-as
 use Rattle.calls.specs.declared.Asked.{Asked}
 use Rattle.calls.specs.declared.Revoked.{Revoked}
 use Rattle.deciding.specs.Decisions.{response_of, known_response, Decision, decide, revoke_desc}
@@ -37,9 +35,9 @@ carried_out numbers t decision = unless (carry_cause numbers t decision.act) dec
 abbrev pub carried_on : Link → Lent → Decision → Result Decision
 carried_on link l decision = carried_out (numbering link l.number) (table_of l.memory) decision
 
-unfoldable pub answer_in : Result Decision → Answer
-answer_in (Err cause) = answer.Refused cause
-answer_in (Ok decision) = answer.State decision.state
+unfoldable pub answer_in : Result Decision → Result PermissionState
+answer_in (Err cause) = Err cause
+answer_in (Ok decision) = Ok decision.state
 
 unfoldable pub asked_in : Result Decision → Bool
 asked_in (Err cause) = false
@@ -66,13 +64,14 @@ abbrev pub settled_on : Call → Link → Lent → Descriptor → List ℕ → L
 settled_on call link l d p cwd response = settled call (numbering link l.number) (table_of l.memory) d p cwd response
 
 -- what it comes to as an answer of the code, with the resolved path's length and where the record ends
-unfoldable pub settled_as : Result Decision → ℕ → ℕ → Settled
-settled_as (Err cause) n k = settled-as.Refused cause
-settled_as (Ok decision) n k = settled-as.Decided decision.state decision.asked decision.writes n k
+unfoldable pub settled_as : Result Decision → ℕ → ℕ → Result Settled
+settled_as (Err cause) n k = Err cause
+settled_as (Ok decision) n k =
+    Ok (record { state = decision.state; asked = decision.asked; writes = decision.writes; size = n; words = k })
 
 -- what is lent, l, and the space s become l' and s'; a record stands from `at` on, and ends at `words`
 pub record Settles (call : Call) (link : Link) (l : Lent) (at : ℕ) (d : Descriptor) (p cwd : List ℕ) (response : PromptResponse)
-    (s : List ℕ) (l' : Lent) (s' : List ℕ) (r : Settled) : Type 0 where
+    (s : List ℕ) (l' : Lent) (s' : List ℕ) (r : Result Settled) : Type 0 where
   pub words : ℕ
   pub answer : r ≡ settled_as (settled_on call link l d p cwd response) (given_size d p cwd) words
   pub memory : l'.memory ≡ do_acts l.memory (decided_acts (settled_on call link l d p cwd response))
@@ -105,18 +104,36 @@ ask_call call link l s a response =
 unfoldable pub text_due : Result Decision → About → List ℕ
 text_due c a = text_in c (text_of a.descriptor a.given (resolve a.given a.cwd))
 
+-- what the code's answer says: its state or why the call is refused, whether the operator was asked, and how many bytes of text and words of records
+-- stand there; a refused call asks nobody and writes nothing
+abbrev pub answered : Result Asked → Result PermissionState
+answered (Err cause) = Err cause
+answered (Ok a) = Ok a.state
+
+abbrev pub told : Result Asked → Bool
+told (Err cause) = false
+told (Ok a) = a.asked
+
+abbrev pub text_size : Result Asked → ℕ
+text_size (Err cause) = 0
+text_size (Ok a) = a.text
+
+abbrev pub words_in : Result Asked → ℕ
+words_in (Err cause) = 0
+words_in (Ok a) = a.words
+
 -- what a call that comes to c answers, and the text space s after it: the text stands at its start, and a refused call leaves it as it was
-pub record Answers (c : Result Decision) (a : About) (s s' : List ℕ) (r : Asked) : Type 0 where
-  pub answer : r.answer ≡ answer_in c
-  pub asked : r.asked ≡ asked_in c
-  pub size : r.text ≡ length (text_due c a)
+pub record Answers (c : Result Decision) (a : About) (s s' : List ℕ) (r : Result Asked) : Type 0 where
+  pub answer : answered r ≡ answer_in c
+  pub asked : told r ≡ asked_in c
+  pub size : text_size r ≡ length (text_due c a)
   pub space : s' ≡ begun (text_due c a) s
 
 -- what is lent, l, and the text space s become l' and s': the act is done and, if the call is linked, recorded, and the text written; or the call is refused
 -- and nothing changes
-pub record Asks (call : Call) (link : Link) (l : Lent) (s : List ℕ) (a : About) (response : ℕ) (l' : Lent) (s' : List ℕ) (r : Asked) : Type 0 where
+pub record Asks (call : Call) (link : Link) (l : Lent) (s : List ℕ) (a : About) (response : ℕ) (l' : Lent) (s' : List ℕ) (r : Result Asked) : Type 0 where
   pub answers : Answers (ask_call call link l s a response) a s s' r
-  pub sends : Sends link (decided_acts (ask_call call link l s a response)) l l' r.words
+  pub sends : Sends link (decided_acts (ask_call call link l s a response)) l l' (words_in r)
 
 -- ---- revoke
 
@@ -129,6 +146,15 @@ revoke_call link l a =
     and_then (given a.descriptor a.given a.cwd) (λ q.
     carried_out numbers t (revoke_desc t q)))))
 
-pub record Revokes (link : Link) (l : Lent) (a : About) (l' : Lent) (r : Revoked) : Type 0 where
-  pub answer : r.answer ≡ answer_in (revoke_call link l a)
-  pub sends : Sends link (decided_acts (revoke_call link l a)) l l' r.words
+-- what the code's answer says: its state or why the call is refused, and how many words hold the record, none of a refused call
+abbrev pub revoked_answer : Result Revoked → Result PermissionState
+revoked_answer (Err cause) = Err cause
+revoked_answer (Ok a) = Ok a.state
+
+abbrev pub revoked_words : Result Revoked → ℕ
+revoked_words (Err cause) = 0
+revoked_words (Ok a) = a.words
+
+pub record Revokes (link : Link) (l : Lent) (a : About) (l' : Lent) (r : Result Revoked) : Type 0 where
+  pub answer : revoked_answer r ≡ answer_in (revoke_call link l a)
+  pub sends : Sends link (decided_acts (revoke_call link l a)) l l' (revoked_words r)

@@ -8,7 +8,6 @@ use Rattle.table.specs.Tables.{max_switches}
 use Rattle.table.specs.Acts.{Act, insert, set_switches}
 use Rattle.table.specs.Calls.{table_in}
 use Rattle.link.specs.declared.Link.{Link}
-use Rattle.link.specs.declared.Sent.{Sent}
 use Rattle.link.specs.Linking.{room_in, run_in, carried}
 use Rattle.link.specs.Sending.{Lent, Does}
 
@@ -27,7 +26,7 @@ switches_call link l v =
     and_then (known_switches v) (λ k.
     carried numbers t (set_switches k)))))
 
-abbrev pub SetsSwitches : Link → Lent → ℕ → Lent → Sent → Type 0
+abbrev pub SetsSwitches : Link → Lent → ℕ → Lent → Result ℕ → Type 0
 SetsSwitches link l v l' r = Does link (switches_call link l v) l l' r
 
 -- ---- insert
@@ -42,5 +41,5 @@ insert_call link l kind p cwd =
     and_then (resolved p cwd) (λ q.
     carried numbers t (insert (record { kind = k; path = q })))))))
 
-abbrev pub Inserts : Link → Lent → ℕ → List ℕ → List ℕ → Lent → Sent → Type 0
+abbrev pub Inserts : Link → Lent → ℕ → List ℕ → List ℕ → Lent → Result ℕ → Type 0
 Inserts link l kind p cwd l' r = Does link (insert_call link l kind p cwd) l l' r

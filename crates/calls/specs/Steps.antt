@@ -1,6 +1,5 @@
 -- What the functions inside the crate ensure, step by step; `Calls.antt` has what they come to.
-use Rattle.std.specs.Prelude.{ℕ, ◌+◌, ◌≤◌, ◌≡◌, List, [], Bool, false, cond, length}
-use Rattle.refusals.specs.declared.Refusal.{Refusal}
+use Rattle.std.specs.Prelude.{ℕ, ◌+◌, ◌≤◌, ◌≡◌, List, [], cond, length}
 use Rattle.refusals.specs.Refusals.{Result}
 use Rattle.paths.specs.declared.Descriptor.{Descriptor}
 use Rattle.paths.specs.Copying.{begun}
@@ -10,8 +9,6 @@ use Rattle.records.specs.Numbers.{record_space}
 use Rattle.link.specs.declared.Link.{Link}
 use Rattle.link.specs.Sending.{Lent, Sends}
 use Rattle.link.specs.Steps.{Records}
-use Rattle.walk.specs.declared.PermissionState.{PermissionState}
-use Rattle.walk.specs.declared.Answer.TheVariants as answer
 use Rattle.deciding.specs.declared.PromptResponse.{PromptResponse}
 use Rattle.deciding.specs.declared.Call.{Call}
 use Rattle.calls.specs.declared.Settled.{Settled}
@@ -19,14 +16,14 @@ use Rattle.calls.specs.declared.Asked.{Asked}
 use Rattle.calls.specs.declared.Revoked.{Revoked}
 use Rattle.deciding.specs.Decisions.{Decision, decide, revoke_desc}
 use Rattle.deciding.specs.Texts.{text_of}
-use Rattle.calls.specs.Calls.{carried_on, answer_in, decided_acts, settled_as}
+use Rattle.calls.specs.Calls.{carried_on, answer_in, decided_acts, settled_as, revoked_answer, revoked_words}
 
 -- what a check or request of what is resolved decides, carried out on what is lent
 abbrev pub decided_on : Call → Link → Lent → Query → PromptResponse → Result Decision
 decided_on call link l q response = carried_on link l (decide call (table_of l.memory) q response)
 
 -- a check or request of what is resolved to n bytes
-pub record SettlesQuery (call : Call) (link : Link) (l : Lent) (at : ℕ) (q : Query) (response : PromptResponse) (n : ℕ) (l' : Lent) (r : Settled) : Type 0
+pub record SettlesQuery (call : Call) (link : Link) (l : Lent) (at : ℕ) (q : Query) (response : PromptResponse) (n : ℕ) (l' : Lent) (r : Result Settled) : Type 0
   where
     pub words : ℕ
     pub answer : r ≡ settled_as (decided_on call link l q response) n words
@@ -35,20 +32,14 @@ pub record SettlesQuery (call : Call) (link : Link) (l : Lent) (at : ℕ) (q : Q
     pub few : words ≤ at + record_space
 
 -- a revoke of what is resolved
-pub record RevokesQuery (link : Link) (q : Query) (l l' : Lent) (r : Revoked) : Type 0 where
-  pub answer : r.answer ≡ answer_in (carried_on link l (revoke_desc (table_of l.memory) q))
-  pub sends : Sends link (decided_acts (carried_on link l (revoke_desc (table_of l.memory) q))) l l' r.words
+pub record RevokesQuery (link : Link) (q : Query) (l l' : Lent) (r : Result Revoked) : Type 0 where
+  pub answer : revoked_answer r ≡ answer_in (carried_on link l (revoke_desc (table_of l.memory) q))
+  pub sends : Sends link (decided_acts (carried_on link l (revoke_desc (table_of l.memory) q))) l l' (revoked_words r)
 
-abbrev pub refused_ask : Refusal → Asked
-refused_ask cause = record { answer = answer.Refused cause; asked = false; text = 0; words = 0 }
-
-abbrev pub refused_revoke : Refusal → Revoked
-refused_revoke cause = record { answer = answer.Refused cause; words = 0 }
-
--- the answer of a call that is decided, and the text space s after it
-pub record Finishes (state : PermissionState) (asked writes : Bool) (words : ℕ) (d : Descriptor) (given resolved s s' : List ℕ) (r : Asked) : Type 0 where
-  pub answer : r.answer ≡ answer.State state
-  pub told : r.asked ≡ asked
-  pub sent : r.words ≡ words
-  pub size : r.text ≡ length (cond writes (text_of d given resolved) [])
-  pub space : s' ≡ begun (cond writes (text_of d given resolved) []) s
+-- the answer of a call that is settled, and the text space s after it
+pub record Finishes (settled : Settled) (d : Descriptor) (given resolved s s' : List ℕ) (r : Asked) : Type 0 where
+  pub state : r.state ≡ settled.state
+  pub told : r.asked ≡ settled.asked
+  pub sent : r.words ≡ settled.words
+  pub size : r.text ≡ length (cond settled.writes (text_of d given resolved) [])
+  pub space : s' ≡ begun (cond settled.writes (text_of d given resolved) []) s

@@ -1,29 +1,26 @@
 // The calls check and request: the checking order, the decision, its act and its text. Scope, "A call comes in".
-ghost use Rattle.std.specs.Prelude.{◌≡◌, true, ◌≤◌, length, take};
+ghost use Rattle.std.specs.Prelude.{◌≡◌, true, length};
 ghost use Rattle.paths.specs.Giving.{is_query, query_of};
 ghost use Rattle.table.specs.Memory.{holds};
 ghost use Rattle.link.specs.Sending.{lent};
 ghost use Rattle.link.specs.Steps.{Ready};
 ghost use Rattle.deciding.specs.Steps.{HasText};
 ghost use Rattle.calls.specs.Calls.{Settles, about, Asks};
-ghost use Rattle.calls.specs.Steps.{SettlesQuery, refused_ask, Finishes};
+ghost use Rattle.calls.specs.Steps.{SettlesQuery, Finishes};
 
 use crate::{Asked, Settled};
 use deciding::decisions::decide;
-use deciding::responses::response_of;
 use deciding::texts::write_text;
-use deciding::{Call, PromptResponse, ResponseRead, TEXT_BYTES};
+use deciding::{Call, PromptResponse, TEXT_BYTES};
 use link::Link;
-use link::linking::{lacks_room, lacks_run};
+use link::linking::admit;
 use link::performing::perform;
 use paths::giving::resolve_given;
-use paths::{Descriptor, MAX_PATH, Resolution};
+use paths::{Descriptor, MAX_PATH};
 use refusals::Refusal;
-use table::Outcome;
 use table::holding::holds_table;
-use walk::{Answer, PermissionState};
 
-// Decides what is resolved, the first n bytes of the space, and carries the act out.
+// Decides what is resolved, and carries the act out.
 fn settle_query(
     mem: &mut [u8],
     link: Link,
@@ -32,26 +29,22 @@ fn settle_query(
     at: usize,
     call: Call,
     d: Descriptor,
-    space: &[u8],
-    n: usize,
+    resolved: &[u8],
     response: PromptResponse,
-) -> Settled
+) -> Result<Settled, Refusal>
     requires mem_value { (holds mem.old ≡ true) × Ready link words.old at }
-    requires n_in_bounds { (n ≤ length space.now) × (is_query (query_of d (take n space.now)) ≡ true) }
-    ensures { SettlesQuery call link (lent mem.old number.old words.old) at (query_of d (take n space.now)) response n (lent mem.new number.new words.new) result }
+    requires resolved_value { is_query (query_of d resolved.now) ≡ true }
+    ensures { SettlesQuery call link (lent mem.old number.old words.old) at (query_of d resolved.now) response (length resolved.now) (lent mem.new number.new words.new) result }
 {
-    let q = &space[..n];
-    let decided = decide(mem, call, d, q, response);
-    let state = decided.state;
-    let asked = decided.asked;
-    let writes = decided.writes;
-    let action = decided.action;
-    let sent = perform(mem, link, number, words, at, action, q);
-    let outcome = sent.outcome;
-    match outcome {
-        Outcome::Refused(cause) => Settled::Refused(cause),
-        Outcome::Done => Settled::Decided(state, asked, writes, n, sent.words),
-    }
+    let decided = decide(mem, call, d, resolved, response);
+    let end = perform(mem, link, number, words, at, decided.action, resolved)?;
+    Ok(Settled {
+        state: decided.state,
+        asked: decided.asked,
+        writes: decided.writes,
+        size: resolved.len(),
+        words: end,
+    })
 }
 
 // Decides what is given, and carries the act out. The resolved path then stands at the start of the space.
@@ -67,60 +60,45 @@ pub fn settle(
     cwd: &[u8],
     response: PromptResponse,
     space: &mut [u8; MAX_PATH],
-) -> Settled
+) -> Result<Settled, Refusal>
     requires { (holds mem.old ≡ true) × Ready link words.old at }
     ensures { Settles call link (lent mem.old number.old words.old) at d «path».now cwd.now response space.old (lent mem.new number.new words.new) space.new result }
 {
-    match resolve_given(d, path, cwd, space) {
-        Resolution::Refused(cause) => Settled::Refused(cause),
-        Resolution::Resolved(n) => settle_query(
-            mem, link, number, words, at, call, d, space, n, response,
-        ),
-    }
+    let size = resolve_given(d, path, cwd, space)?;
+    settle_query(
+        mem,
+        link,
+        number,
+        words,
+        at,
+        call,
+        d,
+        &space[..size],
+        response,
+    )
 }
 
-// A call that is refused.
-fn refused(cause: Refusal) -> Asked
-    ensures { result ≡ refused_ask cause }
-{
-    Asked {
-        answer: Answer::Refused(cause),
-        asked: false,
-        text: 0,
-        words: 0,
-    }
-}
-
-// The answer of a call that is decided, with its text, if one is due. The resolved path is the first n bytes of the space `resolved`.
+// The answer of a call that is settled, with its text, if one is due.
 pub fn finish<'a>(
-    state: PermissionState,
-    asked: bool,
-    writes: bool,
+    settled: Settled,
     d: Descriptor,
     given: &'a [u8],
-    resolved: &'a [u8; MAX_PATH],
-    n: usize,
-    words: usize,
+    resolved: &'a [u8],
     space: &mut [u8],
 ) -> Asked
-    requires { HasText d given.now resolved.now n space.old }
-    ensures { Finishes state asked writes words d given.now (take n resolved.now) space.old space.new result }
+    requires { HasText d given.now resolved.now space.old }
+    ensures { Finishes settled d given.now resolved.now space.old space.new result }
 {
-    let answer = Answer::State(state);
-    if writes {
-        let text = write_text(space, d, given, resolved, n);
-        return Asked {
-            answer,
-            asked,
-            text,
-            words,
-        };
-    }
+    let text = if settled.writes {
+        write_text(space, d, given, resolved)
+    } else {
+        0
+    };
     Asked {
-        answer,
-        asked,
-        text: 0,
-        words,
+        state: settled.state,
+        asked: settled.asked,
+        text,
+        words: settled.words,
     }
 }
 
@@ -137,26 +115,19 @@ pub fn ask<'a>(
     cwd: &[u8],
     response: u32,
     space: &mut [u8],
-) -> Asked
+) -> Result<Asked, Refusal>
     ensures { Asks call link (lent mem.old number.old words.old) space.old (about d «path».now cwd.now) response (lent mem.new number.new words.new) space.new result }
 {
     if !holds_table(mem) {
-        return refused(Refusal::NoTable);
+        return Err(Refusal::NoTable);
     }
     if space.len() < TEXT_BYTES {
-        return refused(Refusal::NoSpace);
+        return Err(Refusal::NoSpace);
     }
-    if lacks_room(link, 1, words) {
-        return refused(Refusal::NoSpace);
-    }
-    if lacks_run(link) {
-        return refused(Refusal::Unknown);
-    }
-    let ResponseRead::Response(known) = response_of(response) else {
-        return refused(Refusal::Unknown);
-    };
+    admit(link, 1, words)?;
+    let known = PromptResponse::try_from(response)?;
     let mut resolved = [0u8; MAX_PATH];
-    match settle(
+    let settled = settle(
         mem,
         link,
         number,
@@ -168,10 +139,6 @@ pub fn ask<'a>(
         cwd,
         known,
         &mut resolved,
-    ) {
-        Settled::Refused(cause) => refused(cause),
-        Settled::Decided(state, asked, writes, n, sent) => finish(
-            state, asked, writes, d, path, &resolved, n, sent, space,
-        ),
-    }
+    )?;
+    Ok(finish(settled, d, path, &resolved[..settled.size], space))
 }

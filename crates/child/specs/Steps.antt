@@ -1,32 +1,28 @@
 -- What the functions inside the crate ensure, step by step; `Calls.antt` has what they come to.
-use Rattle.std.specs.Prelude.{ℕ, ◌+◌, ◌≤◌, ◌≡◌, List, Bool, true, false, Ok}
+use Rattle.std.specs.Prelude.{ℕ, ◌+◌, ◌≤◌, ◌≡◌, List, Bool, true, false, length, Ok, Err}
 use Rattle.refusals.specs.declared.Refusal.{Refusal}
-use Rattle.table.specs.declared.Outcome.{Outcome}
-use Rattle.table.specs.declared.Outcome.TheVariants.{Done, Refused}
+use Rattle.refusals.specs.Refusals.{Result}
 use Rattle.table.specs.Entries.{Entry}
 use Rattle.table.specs.Tables.{Table}
 use Rattle.table.specs.Acts.{insert}
-use Rattle.table.specs.Memory.{table_of, do_acts}
+use Rattle.table.specs.Memory.{table_bytes, table_of, holds, do_acts}
 use Rattle.table.specs.Carrying.{outcome_of}
 use Rattle.records.specs.Numbers.{record_space}
 use Rattle.link.specs.declared.Link.{Link}
 use Rattle.link.specs.Linking.{numbering}
-use Rattle.link.specs.Sending.{Lent}
-use Rattle.link.specs.Steps.{Records}
+use Rattle.link.specs.Sending.{Lent, lent}
+use Rattle.link.specs.Steps.{Admits, Records}
 use Rattle.deciding.specs.declared.PromptResponse.{PromptResponse}
+use Rattle.child.specs.declared.ChildUnaryPermissionArg.{ChildUnaryPermissionArg}
 use Rattle.child.specs.declared.ChildMade.{ChildMade}
 use Rattle.child.specs.declared.ChildSent.{ChildSent}
-use Rattle.items.specs.Items.{known_responses, Item}
+use Rattle.items.specs.Items.{known_responses, Item, ItemList}
+use Rattle.items.specs.Steps.{are_responses}
 use Rattle.child.specs.Making.{Made, nothing, refused_by, granted_by, item_step, all_items}
-use Rattle.child.specs.Calls.{child_left}
+use Rattle.child.specs.Arguments.{arg_of, known_arg, are_in_order}
+use Rattle.child.specs.Calls.{child_call, child_left}
 
 -- ---- steps in memory
-
-abbrev pub made_done : ℕ → ChildMade
-made_done asked = record { outcome = Done; asked = asked }
-
-abbrev pub made_refused : Refusal → ℕ → ChildMade
-made_refused cause asked = record { outcome = Refused cause; asked = asked }
 
 -- memory m of the parent and c of the child become m' and c'
 pub record Makes (made : Made) (m c m' c' : List ℕ) (r : ChildMade) : Type 0 where
@@ -37,11 +33,8 @@ pub record Makes (made : Made) (m c m' c' : List ℕ) (r : ChildMade) : Type 0 w
 
 -- ---- the items, with their records
 
-abbrev pub child_done : ℕ → ℕ → ChildSent
-child_done asked words = record { made = made_done asked; words = words }
-
-abbrev pub child_refused : Refusal → ℕ → ℕ → ChildSent
-child_refused cause asked words = record { made = made_refused cause asked; words = words }
+abbrev pub child_sent : Result Unit → ℕ → ℕ → ChildSent
+child_sent outcome asked words = record { made = record { outcome = outcome; asked = asked }; words = words }
 
 -- what is made of the parent's memory, which l lends, and the child's c, and the records of the acts on the parent
 pub record MakesSent (made : Made) (link : Link) (l : Lent) (c : List ℕ) (at : ℕ) (l' : Lent) (c' : List ℕ) (r : ChildSent) : Type 0 where
@@ -59,7 +52,7 @@ SendsItems cwd items responses link l c l' c' r = (known : List PromptResponse) 
     → MakesSent (all_items (numbering link l.number) cwd (items known) (table_of l.memory) (table_of c)) link l c 0 l' c' r
 
 -- the same for steps that change the child's memory alone
-pub record MakesChild (made : Made) (c c' : List ℕ) (r : Outcome) : Type 0 where
+pub record MakesChild (made : Made) (c c' : List ℕ) (r : Result Unit) : Type 0 where
   pub outcome : r ≡ outcome_of made.refused
   pub child : c' ≡ do_acts c made.grants
 
@@ -69,12 +62,26 @@ reinserted_by true e u = nothing
 reinserted_by false e u = granted_by (insert e) u
 
 -- what is made after the items, by their outcome
-unfoldable pub after_items : Outcome → Made → Made
-after_items Done made = made
-after_items (Refused cause) made = refused_by cause
+unfoldable pub after_items : Result Unit → Made → Made
+after_items (Ok done) made = made
+after_items (Err cause) made = refused_by cause
 
--- from there to the end, after which the operator was asked so often: the child's memory c becomes c'
-pub record Completes (made : Made) (asked : ℕ) (c c' : List ℕ) (r : ChildMade) : Type 0 where
-  pub outcome : r.outcome ≡ outcome_of made.refused
-  pub times : r.asked ≡ asked
+-- from there to the end: the child's memory c becomes c'
+pub record Completes (made : Made) (c c' : List ℕ) (r : Result Unit) : Type 0 where
+  pub outcome : r ≡ outcome_of made.refused
   pub child : c' ≡ child_left made.refused (do_acts c made.grants)
+
+-- ---- the tests before the items
+
+-- a call of this argument has passed them: m is the parent's memory, c the child's, w the record space
+pub record Passed (link : Link) (m w c : List ℕ) (code : ℕ) (list : ItemList) (arg : ChildUnaryPermissionArg) : Type 0 where
+  pub parent : holds m ≡ true
+  pub child : table_bytes ≤ length c
+  pub link : Admits (length list.ends) link w
+  pub known : known_arg (arg_of code) ≡ Ok arg
+  pub responses : are_responses list.responses ≡ true
+  pub ordered : are_in_order arg list.bytes list.ends list.responses ≡ true
+
+abbrev pub Tests : Link → List ℕ → List ℕ → List ℕ → ℕ → ItemList → Result ChildUnaryPermissionArg → Type 0
+Tests link m w c code list (Ok arg) = Passed link m w c code list arg
+Tests link m w c code list (Err cause) = (n : ℕ) (cwd : List ℕ) → child_call link (lent m n w) c code list cwd ≡ Err cause

@@ -5,15 +5,13 @@ ghost use Rattle.table.specs.Memory.{table_of, holds};
 ghost use Rattle.link.specs.Sending.{lent};
 ghost use Rattle.link.specs.Steps.{Admits, Ready};
 ghost use Rattle.deciding.specs.declared.PromptResponse.{PromptResponse};
-ghost use Rattle.deciding.specs.Decisions.{passes};
 ghost use Rattle.items.specs.Items.{list_items};
 ghost use Rattle.items.specs.Steps.{are_responses, Listed};
 ghost use Rattle.child.specs.Arguments.{items_of, are_in_order};
-ghost use Rattle.child.specs.Making.{count_of, passed_on};
-ghost use Rattle.child.specs.Steps.{child_done, child_refused, MakesChild, SendsItem, SendsItems};
+ghost use Rattle.child.specs.Making.{passed_on};
+ghost use Rattle.child.specs.Steps.{MakesChild, SendsItem, SendsItems};
 
-use crate::{ChildMade, ChildSent, ChildUnaryPermissionArg};
-use calls::Settled;
+use crate::{ChildSent, ChildUnaryPermissionArg};
 use calls::asking::settle;
 use deciding::decisions::grant_action;
 use deciding::{Call, PromptResponse};
@@ -21,71 +19,20 @@ use items::response_at;
 use link::Link;
 use paths::{Descriptor, MAX_PATH};
 use refusals::Refusal;
-use table::Outcome;
 use table::carrying::carry_out;
 use walk::PermissionState;
 
-// Once, if the operator was asked.
-fn count_of(asked: bool) -> usize
-    ensures { result ≡ count_of asked }
-{
-    if asked {
-        return 1;
-    }
-    0
-}
-
-// Whether a check passes that comes to a state.
-fn is_passed(state: PermissionState) -> bool
-    ensures { result ≡ passes state }
-{
-    match state {
-        PermissionState::Granted => true,
-        PermissionState::GrantedPartial => false,
-        PermissionState::Prompt => false,
-        PermissionState::Denied => false,
-        PermissionState::DeniedPartial => false,
-        PermissionState::Ignored => false,
-    }
-}
-
 // What the child is granted if the parent's check passes: a path, or with none switch 1.
-fn pass_on(child: &mut [u8], state: PermissionState, d: Descriptor, q: &[u8]) -> Outcome
+fn pass_on(child: &mut [u8], state: PermissionState, d: Descriptor, q: &[u8]) -> Result<(), Refusal>
     requires child_value { holds child.old ≡ true }
     requires q_value { is_query (query_of d q.now) ≡ true }
     ensures { MakesChild (passed_on state (query_of d q.now) (table_of child.old)) child.old child.new result }
 {
-    if !is_passed(state) {
-        return Outcome::Refused(Refusal::Escalation);
+    if state != PermissionState::Granted {
+        return Err(Refusal::Escalation);
     }
     let action = grant_action(child, d);
     carry_out(child, action, q)
-}
-
-// A call that is refused, with the words that stand there.
-pub(crate) fn refused(cause: Refusal, asked: usize, words: usize) -> ChildSent
-    ensures { result ≡ child_refused cause asked words }
-{
-    ChildSent {
-        made: ChildMade {
-            outcome: Outcome::Refused(cause),
-            asked,
-        },
-        words,
-    }
-}
-
-// A call that goes on.
-fn done(asked: usize, words: usize) -> ChildSent
-    ensures { result ≡ child_done asked words }
-{
-    ChildSent {
-        made: ChildMade {
-            outcome: Outcome::Done,
-            asked,
-        },
-        words,
-    }
 }
 
 // One item, as given with the working directory, or with no path; its record stands from `at` on.
@@ -118,17 +65,12 @@ fn grant_item(
         response,
         &mut resolved,
     ) {
-        Settled::Refused(cause) => refused(cause, 0, at),
-        Settled::Decided(state, asked, _, n, end) => {
-            let outcome = pass_on(child, state, d, &resolved[..n]);
-            ChildSent {
-                made: ChildMade {
-                    outcome,
-                    asked: count_of(asked),
-                },
-                words: end,
-            }
-        }
+        Err(cause) => ChildSent::new(Err(cause), 0, at),
+        Ok(settled) => ChildSent::new(
+            pass_on(child, settled.state, d, &resolved[..settled.size]),
+            usize::from(settled.asked),
+            settled.words,
+        ),
     }
 }
 
@@ -147,12 +89,11 @@ fn grant_items(
     requires { (holds parent.old ≡ true) × (holds child.old ≡ true) × Listed bytes.now ends.now responses.now × Admits (length ends.now) link words.old }
     ensures { SendsItems cwd.now (list_items bytes.now 0 ends.now) responses.now link (lent parent.old number.old words.old) child.old (lent parent.new number.new words.new) child.new result }
 {
-    let mut asked: usize = 0;
-    let mut at: usize = 0;
-    let mut from: usize = 0;
-    let mut i: usize = 0;
-    while i < ends.len() {
-        let end = ends[i] as usize;
+    let mut asked = 0;
+    let mut at = 0;
+    let mut from = 0;
+    for (i, end) in ends.iter().enumerate() {
+        let end = *end as usize;
         let sent = grant_item(
             parent,
             child,
@@ -166,16 +107,13 @@ fn grant_items(
             response_at(responses, i),
         );
         at = sent.words;
-        let made = sent.made;
-        asked += made.asked;
-        let outcome = made.outcome;
-        if let Outcome::Refused(cause) = outcome {
-            return refused(cause, asked, at);
+        asked += sent.made.asked;
+        if let Err(cause) = sent.made.outcome {
+            return ChildSent::new(Err(cause), asked, at);
         }
         from = end;
-        i += 1;
     }
-    done(asked, at)
+    ChildSent::new(Ok(()), asked, at)
 }
 
 // The items of any argument.
@@ -197,8 +135,9 @@ pub(crate) fn grant_all(
     ensures { SendsItems cwd.now (items_of arg bytes.now ends.now) responses.now link (lent parent.old number.old words.old) child.old (lent parent.new number.new words.new) child.new result }
 {
     match arg {
-        ChildUnaryPermissionArg::Inherit => done(0, 0),
-        ChildUnaryPermissionArg::NotGranted => done(0, 0),
+        ChildUnaryPermissionArg::Inherit | ChildUnaryPermissionArg::NotGranted => {
+            ChildSent::new(Ok(()), 0, 0)
+        }
         ChildUnaryPermissionArg::Granted => grant_item(
             parent,
             child,

@@ -1,7 +1,10 @@
 // A child's table, made from its parent's: the Rust's `create_child_permissions`. The definitions are in specs/.
 #![tactic(auto)]
 
-use table::Outcome;
+ghost use Rattle.std.specs.Prelude.{◌≡◌};
+ghost use Rattle.child.specs.Steps.{child_sent};
+
+use refusals::Refusal;
 
 pub mod arguments;
 pub mod creating;
@@ -9,7 +12,7 @@ pub mod granting;
 pub mod inheriting;
 
 // What a child is to have, with the Rust's names: the scope's child codes Inherit, Granted, NotGranted and list, in its order.
-#[derive(Clone, Copy)]
+#[derive(Clone, Copy, PartialEq, Eq)]
 pub enum ChildUnaryPermissionArg {
     Inherit,
     Granted,
@@ -17,17 +20,10 @@ pub enum ChildUnaryPermissionArg {
     GrantedList,
 }
 
-// The argument that a child code names, if it names one.
-#[derive(Clone, Copy)]
-pub enum ArgRead {
-    Arg(ChildUnaryPermissionArg),
-    Unknown,
-}
-
-// What a child call answers, and how often the operator was asked.
+// What a child call answers, and how often the operator was asked, also where it is refused.
 #[derive(Clone, Copy)]
 pub struct ChildMade {
-    pub outcome: Outcome,
+    pub outcome: Result<(), Refusal>,
     pub asked: usize,
 }
 
@@ -36,4 +32,19 @@ pub struct ChildMade {
 pub struct ChildSent {
     pub made: ChildMade,
     pub words: usize,
+}
+
+impl ChildSent {
+    // What a call answers, with how often the operator was asked and where its records end.
+    fn new(outcome: Result<(), Refusal>, asked: usize, words: usize) -> ChildSent
+        ensures { result ≡ child_sent outcome asked words }
+    {
+        ChildSent {
+            made: ChildMade {
+                outcome,
+                asked,
+            },
+            words,
+        }
+    }
 }

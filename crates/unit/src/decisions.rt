@@ -20,15 +20,9 @@ use walk::PermissionState;
 fn settle(asks: bool, answered: PermissionState, state: PermissionState) -> Decided
     ensures { result ≡ settle asks answered state }
 {
-    if asks {
-        return Decided {
-            state: answered,
-            asked: true,
-        };
-    }
     Decided {
-        state,
-        asked: false,
+        state: if asks { answered } else { state },
+        asked: asks,
     }
 }
 
@@ -38,14 +32,7 @@ fn settle(asks: bool, answered: PermissionState, state: PermissionState) -> Deci
 fn request_asks(state: PermissionState, prompt: bool) -> bool
     ensures { result ≡ request_asks state prompt }
 {
-    match state {
-        PermissionState::Granted => false,
-        PermissionState::GrantedPartial => false,
-        PermissionState::Prompt => true,
-        PermissionState::Denied => false,
-        PermissionState::DeniedPartial => false,
-        PermissionState::Ignored => false,
-    }
+    state == PermissionState::Prompt
 }
 
 // What a request comes to by an answer: Allow alone is a yes.
@@ -53,9 +40,8 @@ fn request_state_by(response: PromptResponse) -> PermissionState
     ensures { result ≡ request_state_by response }
 {
     match response {
-        PromptResponse::Deny => PermissionState::Denied,
         PromptResponse::Allow => PermissionState::Granted,
-        PromptResponse::AllowAll => PermissionState::Denied,
+        PromptResponse::Deny | PromptResponse::AllowAll => PermissionState::Denied,
     }
 }
 
@@ -75,14 +61,7 @@ fn request(state: PermissionState, prompt: bool, response: PromptResponse) -> De
 fn check_asks(state: PermissionState, prompt: bool) -> bool
     ensures { result ≡ check_asks state prompt }
 {
-    match state {
-        PermissionState::Granted => false,
-        PermissionState::GrantedPartial => false,
-        PermissionState::Prompt => prompt,
-        PermissionState::Denied => false,
-        PermissionState::DeniedPartial => false,
-        PermissionState::Ignored => false,
-    }
+    prompt && state == PermissionState::Prompt
 }
 
 // Either yes passes.
@@ -114,12 +93,9 @@ pub(crate) fn decide(
 pub(crate) fn revoked(state: PermissionState) -> PermissionState
     ensures { result ≡ revoke state }
 {
-    match state {
-        PermissionState::Granted => PermissionState::Prompt,
-        PermissionState::GrantedPartial => state,
-        PermissionState::Prompt => state,
-        PermissionState::Denied => state,
-        PermissionState::DeniedPartial => state,
-        PermissionState::Ignored => state,
+    if state == PermissionState::Granted {
+        PermissionState::Prompt
+    } else {
+        state
     }
 }

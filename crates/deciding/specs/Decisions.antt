@@ -21,8 +21,6 @@ use Rattle.walk.specs.declared.AllowPartial.TheVariants.{TreatAsDenied, TreatAsP
 use Rattle.walk.specs.Walk.{query_desc, is_allow_all}
 use Rattle.deciding.specs.declared.PromptResponse.{PromptResponse}
 use Rattle.deciding.specs.declared.PromptResponse.TheVariants.{Deny, Allow, AllowAll}
-use Rattle.deciding.specs.declared.ResponseRead.{ResponseRead}
-use Rattle.deciding.specs.declared.ResponseRead.TheVariants.{Response, Unknown}
 use Rattle.deciding.specs.declared.Call.{Call}
 use Rattle.deciding.specs.declared.Call.TheVariants.{Check, Request}
 
@@ -34,16 +32,16 @@ response_number Allow = 1
 response_number AllowAll = 2
 
 -- the answer that a number names; none has a number above 2
-unfoldable pub response_of : ℕ → ResponseRead
-response_of zero = Response Deny
-response_of (suc zero) = Response Allow
-response_of (suc (suc zero)) = Response AllowAll
-response_of (suc (suc (suc n))) = Unknown
+unfoldable pub response_of : ℕ → Option PromptResponse
+response_of zero = Some Deny
+response_of (suc zero) = Some Allow
+response_of (suc (suc zero)) = Some AllowAll
+response_of (suc (suc (suc n))) = None
 
 -- 3 where it names none
-unfoldable pub known_response : ResponseRead → Result PromptResponse
-known_response (Response response) = Ok response
-known_response Unknown = Err refusal.Unknown
+unfoldable pub known_response : Option PromptResponse → Result PromptResponse
+known_response (Some response) = Ok response
+known_response None = Err refusal.Unknown
 
 -- ---- acts
 

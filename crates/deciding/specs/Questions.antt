@@ -1,5 +1,5 @@
 -- What check and request would ask, before the operator's answer is known: checking order, answer, and the text space after it. Scope, "A call comes in".
-use Rattle.std.specs.Prelude.{ℕ, ◌≡◌, List, [], ◌∷◌, Bool, true, false, cond, length, ltb, Ok, Err}
+use Rattle.std.specs.Prelude.{ℕ, ◌≡◌, List, [], ◌∷◌, Bool, true, false, cond, length, ltb, Option, None, Some, Ok, Err}
 use Rattle.refusals.specs.declared.Refusal.TheVariants.{NoSpace}
 use Rattle.refusals.specs.Refusals.{when, first_cause, Result, and_then, unless}
 use Rattle.paths.specs.declared.Descriptor.{Descriptor}
@@ -10,8 +10,6 @@ use Rattle.table.specs.Tables.{Table}
 use Rattle.table.specs.Calls.{table_in}
 use Rattle.deciding.specs.declared.PromptResponse.TheVariants.{Deny}
 use Rattle.deciding.specs.declared.Call.{Call}
-use Rattle.deciding.specs.declared.Question.{Question}
-use Rattle.deciding.specs.declared.Question.TheVariants as question
 use Rattle.deciding.specs.Decisions.{decide}
 use Rattle.deciding.specs.Texts.{text_of}
 
@@ -39,20 +37,20 @@ question_call call m s d p cwd =
     and_then (given d p cwd) (λ q.
     Ok (would_ask call t q))))
 
--- the question, if one would be asked, and its length, as an answer of the code
-unfoldable pub question_by : Bool → List ℕ → Question
-question_by true text = question.Asks (length text)
-question_by false text = question.AsksNothing
+-- the length of the question, if one would be asked
+unfoldable pub question_by : Bool → List ℕ → Option ℕ
+question_by true text = Some (length text)
+question_by false text = None
 
-unfoldable pub question_in : Result Bool → List ℕ → Question
-question_in (Err cause) text = question.Refused cause
-question_in (Ok asks) text = question_by asks text
+unfoldable pub question_in : Result Bool → List ℕ → Result (Option ℕ)
+question_in (Err cause) text = Err cause
+question_in (Ok asks) text = Ok (question_by asks text)
 
 unfoldable pub question_text : Result Bool → List ℕ → List ℕ
 question_text (Err cause) text = []
 question_text (Ok asks) text = cond asks text []
 
 -- the text space s becomes s': the question stands at its start, or nothing changes
-pub record Questions (call : Call) (m s : List ℕ) (d : Descriptor) (p cwd s' : List ℕ) (r : Question) : Type 0 where
+pub record Questions (call : Call) (m s : List ℕ) (d : Descriptor) (p cwd s' : List ℕ) (r : Result (Option ℕ)) : Type 0 where
   pub answer : r ≡ question_in (question_call call m s d p cwd) (text_of d p (resolve p cwd))
   pub space : s' ≡ begun (question_text (question_call call m s d p cwd) (text_of d p (resolve p cwd))) s

@@ -94,8 +94,7 @@ pub fn state_by(response: PromptResponse) -> PermissionState
 {
     match response {
         PromptResponse::Deny => PermissionState::Denied,
-        PromptResponse::Allow => PermissionState::Granted,
-        PromptResponse::AllowAll => PermissionState::Granted,
+        PromptResponse::Allow | PromptResponse::AllowAll => PermissionState::Granted,
     }
 }
 
@@ -130,17 +129,8 @@ fn check_by(mem: &[u8], d: Descriptor, response: PromptResponse, state: Permissi
     ensures { (q : List ℕ) → Decides (check_by (table_of mem.now) (query_of d q) response state) q result }
 {
     match state {
-        PermissionState::Granted => unasked(state, false),
-        PermissionState::GrantedPartial => unasked(state, true),
-        PermissionState::Prompt => {
-            if has_switch(mem, PROMPT) {
-                return asks(mem, d, response);
-            }
-            unasked(state, true)
-        }
-        PermissionState::Denied => unasked(state, true),
-        PermissionState::DeniedPartial => unasked(state, true),
-        PermissionState::Ignored => unasked(state, true),
+        PermissionState::Prompt if has_switch(mem, PROMPT) => asks(mem, d, response),
+        _ => unasked(state, state != PermissionState::Granted),
     }
 }
 
@@ -150,10 +140,10 @@ fn check_desc(mem: &[u8], d: Descriptor, q: &[u8], response: PromptResponse) -> 
     ensures { Decides (check_desc (table_of mem.now) (query_of d q.now) response) q.now result }
 {
     if is_allow_all(mem) {
-        return unasked(PermissionState::Granted, false);
+        unasked(PermissionState::Granted, false)
+    } else {
+        check_by(mem, d, response, query_desc(mem, check_mode(d), d, q))
     }
-    let state = query_desc(mem, check_mode(d), d, q);
-    check_by(mem, d, response, state)
 }
 
 // ---- request
@@ -175,16 +165,9 @@ fn request_by(
             writes: false,
             action: grant_action(mem, d),
         },
-        PermissionState::GrantedPartial => unasked(state, false),
-        PermissionState::Prompt => {
-            if has_switch(mem, PROMPT) {
-                return asks(mem, d, response);
-            }
-            unasked(PermissionState::Denied, false)
-        }
-        PermissionState::Denied => unasked(state, false),
-        PermissionState::DeniedPartial => unasked(state, false),
-        PermissionState::Ignored => unasked(state, false),
+        PermissionState::Prompt if has_switch(mem, PROMPT) => asks(mem, d, response),
+        PermissionState::Prompt => unasked(PermissionState::Denied, false),
+        _ => unasked(state, false),
     }
 }
 

@@ -1,7 +1,6 @@
 // What check, request and revoke decide, their texts, and what a call would ask. Nothing here changes a table. The definitions are in specs/.
 #![tactic(auto)]
 
-use refusals::Refusal;
 use table::Action;
 use walk::PermissionState;
 
@@ -14,22 +13,15 @@ pub mod texts;
 pub const TEXT_BYTES: usize = 1041;
 
 // The operator's answer, with the Rust's names: the scope's Deny, Allow and AllowAll, in its order.
-#[derive(Clone, Copy)]
+#[derive(Clone, Copy, PartialEq, Eq)]
 pub enum PromptResponse {
     Deny,
     Allow,
     AllowAll,
 }
 
-// The answer that a number names, if it names one.
-#[derive(Clone, Copy)]
-pub enum ResponseRead {
-    Response(PromptResponse),
-    Unknown,
-}
-
 // The calls that may ask the operator. They differ in their decision alone.
-#[derive(Clone, Copy)]
+#[derive(Clone, Copy, PartialEq, Eq)]
 pub enum Call {
     Check,
     Request,
@@ -43,12 +35,4 @@ pub struct Decided {
     pub asked: bool,
     pub writes: bool,
     pub action: Action,
-}
-
-// What a call would ask the operator: a question with so many bytes of text, or nothing; or why the call would be refused.
-#[derive(Clone, Copy)]
-pub enum Question {
-    Asks(usize),
-    AsksNothing,
-    Refused(Refusal),
 }

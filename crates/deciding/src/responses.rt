@@ -1,17 +1,22 @@
 // The operator's answer, handed in as a number. Scope, "A call comes in".
 ghost use Rattle.std.specs.Prelude.{◌≡◌};
-ghost use Rattle.deciding.specs.Decisions.{response_of};
+ghost use Rattle.deciding.specs.Decisions.{response_of, known_response};
 
-use crate::{PromptResponse, ResponseRead};
+use crate::PromptResponse;
+use refusals::Refusal;
 
 // The answer that a number names.
-pub fn response_of(number: u32) -> ResponseRead
-    ensures { result ≡ response_of number }
-{
-    match number {
-        0 => ResponseRead::Response(PromptResponse::Deny),
-        1 => ResponseRead::Response(PromptResponse::Allow),
-        2 => ResponseRead::Response(PromptResponse::AllowAll),
-        _ => ResponseRead::Unknown,
+impl TryFrom<u32> for PromptResponse {
+    type Error = Refusal;
+
+    ghost try_from_gives = { λ n r. r ≡ known_response (response_of n) };
+
+    fn try_from(n: u32) -> Result<Self, Refusal> {
+        match n {
+            0 => Ok(PromptResponse::Deny),
+            1 => Ok(PromptResponse::Allow),
+            2 => Ok(PromptResponse::AllowAll),
+            _ => Err(Refusal::Unknown),
+        }
     }
 }

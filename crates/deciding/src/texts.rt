@@ -1,5 +1,5 @@
 // The texts: written when the operator is asked and when a check fails.
-ghost use Rattle.std.specs.Prelude.{◌≡◌, ◌&&◌, ◌+◌, ◌≤◌, length, take};
+ghost use Rattle.std.specs.Prelude.{◌≡◌, ◌&&◌, ◌+◌, ◌≤◌, length};
 ghost use Rattle.paths.specs.Copying.{Appends};
 ghost use Rattle.deciding.specs.Texts.{opening, closing, display_name, begins, ends, format_display_name, text_of};
 ghost use Rattle.deciding.specs.Steps.{HasText};
@@ -11,42 +11,32 @@ use paths::copying::append;
 fn begins_with(p: &[u8], b: u8) -> bool
     ensures { result ≡ begins b p.now }
 {
-    if p.len() == 0 {
-        return false;
-    }
-    p[0] == b
+    p.first() == Some(&b)
 }
 
 // Whether a path ends with a byte.
 fn ends_with(p: &[u8], b: u8) -> bool
     ensures { result ≡ ends b p.now }
 {
-    let n = p.len();
-    if n == 0 {
-        return false;
-    }
-    p[n - 1] == b
+    p.last() == Some(&b)
 }
 
-// The name that is shown: a relative path as it was given, else the resolved path, which is the first n bytes of the space `resolved`.
-fn display_name<'a>(given: &'a [u8], resolved: &'a [u8], n: usize) -> &'a [u8]
-    requires { n ≤ length resolved.now }
-    ensures { result.now ≡ display_name given.now (take n resolved.now) }
+// The name that is shown: a relative path as it was given, else the resolved path.
+fn display_name<'a>(given: &'a [u8], resolved: &'a [u8]) -> &'a [u8]
+    ensures { result.now ≡ display_name given.now resolved.now }
 {
     if begins_with(given, b'/') {
-        return &resolved[..n];
+        resolved
+    } else {
+        given
     }
-    given
 }
 
 // Whether a name begins with `<` and ends with `>`.
 fn is_in_angles(name: &[u8]) -> bool
     ensures { result ≡ begins opening name.now && ends closing name.now }
 {
-    if begins_with(name, b'<') {
-        return ends_with(name, b'>');
-    }
-    false
+    begins_with(name, b'<') && ends_with(name, b'>')
 }
 
 // Writes a name as it is shown: in double quotes, unless it is in angle brackets.
@@ -68,17 +58,16 @@ pub fn write_text<'a>(
     d: Descriptor,
     given: &'a [u8],
     resolved: &'a [u8],
-    n: usize,
 ) -> usize
-    requires { HasText d given.now resolved.now n space.old }
-    ensures { Appends (text_of d given.now (take n resolved.now)) space.old 0 space.new result }
+    requires { HasText d given.now resolved.now space.old }
+    ensures { Appends (text_of d given.now resolved.now) space.old 0 space.new result }
 {
     let end = append(space, 0, b"read access");
     match d {
         Descriptor::NoPath => end,
         Descriptor::Path => {
             let at = append(space, end, b" to ");
-            append_name(space, at, display_name(given, resolved, n))
+            append_name(space, at, display_name(given, resolved))
         }
     }
 }

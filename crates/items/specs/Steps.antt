@@ -1,13 +1,12 @@
 -- What the functions inside the crate ensure, and what their callers have tested.
-use Rattle.std.specs.Prelude.{ℕ, ◌≤◌, ◌≡◌, List, [], ◌∷◌, Bool, true, false, ◌&&◌, length}
-use Rattle.deciding.specs.declared.ResponseRead.{ResponseRead}
-use Rattle.deciding.specs.declared.ResponseRead.TheVariants as response-read
+use Rattle.std.specs.Prelude.{ℕ, ◌≤◌, ◌≡◌, List, [], ◌∷◌, Bool, true, false, ◌&&◌, length, Option, None, Some}
+use Rattle.deciding.specs.declared.PromptResponse.{PromptResponse}
 use Rattle.deciding.specs.Decisions.{response_of}
 use Rattle.items.specs.Items.{max_items, close_at}
 
-unfoldable pub is_response : ResponseRead → Bool
-is_response (response-read.Response response) = true
-is_response response-read.Unknown = false
+unfoldable pub is_response : Option PromptResponse → Bool
+is_response (Some response) = true
+is_response None = false
 
 -- every answer is known
 unfoldable pub are_responses : List ℕ → Bool

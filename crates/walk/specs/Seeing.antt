@@ -10,8 +10,6 @@ use Rattle.walk.specs.declared.AllowPartial.{AllowPartial}
 use Rattle.walk.specs.declared.AllowPartial.TheVariants.{TreatAsDenied, TreatAsPartialGranted, TreatAsGranted}
 use Rattle.walk.specs.declared.PermissionState.{PermissionState}
 use Rattle.walk.specs.declared.Met.{Met}
-use Rattle.walk.specs.declared.FirstMatch.{FirstMatch}
-use Rattle.walk.specs.declared.FirstMatch.TheVariants.{Nothing, Match}
 use Rattle.walk.specs.declared.Seen.{Seen}
 use Rattle.walk.specs.Walk.{first_match, is_flag_below, by_match, query_desc}
 
@@ -39,9 +37,9 @@ partial_by partial I below = partial || below
 -- ---- the entries read so far
 
 -- the kind of a match, if there is one
-unfoldable pub kind_of_match : Option Entry → FirstMatch
-kind_of_match None = Nothing
-kind_of_match (Some e) = Match e.kind
+unfoldable pub kind_of_match : Option Entry → Option Kind
+kind_of_match None = None
+kind_of_match (Some e) = Some e.kind
 
 -- the first match among the entries read, and whether a partial denial is among them
 pub record Sees (q : List ℕ) (read : List Entry) (seen : Seen) : Type 0 where
@@ -49,10 +47,10 @@ pub record Sees (q : List ℕ) (read : List Entry) (seen : Seen) : Type 0 where
   pub partial : seen.partial ≡ any (is_flag_below q) read
 
 -- with one entry more: a match is the first only if there was none
-abbrev pub first_of : FirstMatch → Kind → Bool → FirstMatch
+abbrev pub first_of : Option Kind → Kind → Bool → Option Kind
 first_of first kind false = first
-first_of Nothing kind true = Match kind
-first_of (Match earlier) kind true = Match earlier
+first_of None kind true = Some kind
+first_of (Some earlier) kind true = Some earlier
 
 -- what is seen with one entry more, of a kind and met so, whatever was read before
 pub record SeesMore (kind : Kind) (met : Met) (seen seen' : Seen) : Type 0 where
@@ -72,9 +70,9 @@ settles I mode partial = true
 
 -- no later entry can change the state, and the walk may end: the first match stays the first, and settles the state. Without a match any later
 -- entry may be the first
-abbrev pub is_settled : FirstMatch → AllowPartial → Bool → Bool
-is_settled Nothing mode partial = false
-is_settled (Match kind) mode partial = settles kind mode partial
+abbrev pub is_settled : Option Kind → AllowPartial → Bool → Bool
+is_settled None mode partial = false
+is_settled (Some kind) mode partial = settles kind mode partial
 
 -- what was seen at the end of a walk: that of all entries, or of so many of the first that the rest cannot change the state
 pub record Walks (entries : List Entry) (mode : AllowPartial) (q : List ℕ) (seen : Seen) : Type 0 where

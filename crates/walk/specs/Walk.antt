@@ -11,8 +11,6 @@ use Rattle.walk.specs.declared.PermissionState.TheVariants.{
 }
 use Rattle.walk.specs.declared.AllowPartial.{AllowPartial}
 use Rattle.walk.specs.declared.AllowPartial.TheVariants.{TreatAsDenied, TreatAsPartialGranted, TreatAsGranted}
-use Rattle.walk.specs.declared.ModeRead.{ModeRead}
-use Rattle.walk.specs.declared.ModeRead.TheVariants.{Mode, Unknown}
 use Rattle.refusals.specs.declared.Refusal.TheVariants as refusal
 use Rattle.refusals.specs.Refusals.{Result}
 use Rattle.paths.specs.Giving.{Query, no_path, path}
@@ -44,6 +42,21 @@ state_number Denied = 3
 state_number DeniedPartial = 4
 state_number Ignored = 5
 
+-- the state that a number names; none has a number above 5
+unfoldable pub state_of : ℕ → Option PermissionState
+state_of zero = Some Granted
+state_of (suc zero) = Some GrantedPartial
+state_of (suc (suc zero)) = Some Prompt
+state_of (suc (suc (suc zero))) = Some Denied
+state_of (suc (suc (suc (suc zero)))) = Some DeniedPartial
+state_of (suc (suc (suc (suc (suc zero))))) = Some Ignored
+state_of (suc (suc (suc (suc (suc (suc n)))))) = None
+
+-- 12 where it names none
+unfoldable pub known_state : Option PermissionState → Result PermissionState
+known_state (Some state) = Ok state
+known_state None = Err refusal.UnknownState
+
 -- modes: 0 denied, 1 partial, 2 granted
 abbrev pub mode_number : AllowPartial → ℕ
 mode_number TreatAsDenied = 0
@@ -51,16 +64,16 @@ mode_number TreatAsPartialGranted = 1
 mode_number TreatAsGranted = 2
 
 -- the mode that a number names; none has a number above 2
-unfoldable pub mode_of : ℕ → ModeRead
-mode_of zero = Mode TreatAsDenied
-mode_of (suc zero) = Mode TreatAsPartialGranted
-mode_of (suc (suc zero)) = Mode TreatAsGranted
-mode_of (suc (suc (suc n))) = Unknown
+unfoldable pub mode_of : ℕ → Option AllowPartial
+mode_of zero = Some TreatAsDenied
+mode_of (suc zero) = Some TreatAsPartialGranted
+mode_of (suc (suc zero)) = Some TreatAsGranted
+mode_of (suc (suc (suc n))) = None
 
 -- 3 where it names none
-unfoldable pub known_mode : ModeRead → Result AllowPartial
-known_mode (Mode mode) = Ok mode
-known_mode Unknown = Err refusal.Unknown
+unfoldable pub known_mode : Option AllowPartial → Result AllowPartial
+known_mode (Some mode) = Ok mode
+known_mode None = Err refusal.Unknown
 
 -- ---- the walk
 

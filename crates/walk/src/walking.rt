@@ -6,6 +6,9 @@ ghost use Rattle.table.specs.Memory.{table_of, holds};
 ghost use Rattle.walk.specs.Walk.{
   state_number,
   mode_of,
+  known_mode,
+  state_of,
+  known_state,
   allowed,
   decided_by,
   is_denied,
@@ -27,10 +30,11 @@ ghost use Rattle.walk.specs.Seeing.{
   Decides,
 };
 
-use crate::{AllowPartial, FirstMatch, Met, ModeRead, PermissionState, Seen};
+use crate::{AllowPartial, Met, PermissionState, Seen};
 use paths::relating::{is_apart, relate};
 use paths::resolving::is_resolved;
 use paths::{Descriptor, Relation};
+use refusals::Refusal;
 use table::reading::{has_mark, has_switch};
 use table::{
     FLAG_DENIED, FLAG_IGNORED, GRANTED, HAS_FLAG_DENIED, HAS_FLAG_IGNORED, HAS_PROMPT_DENIED, Kind,
@@ -40,28 +44,46 @@ use table::{
 // ---- numbers
 
 // The Rust's number of a state.
-pub fn state_number(state: PermissionState) -> u8
-    ensures { result ≡ state_number state }
-{
-    match state {
-        PermissionState::Granted => 0,
-        PermissionState::GrantedPartial => 1,
-        PermissionState::Prompt => 2,
-        PermissionState::Denied => 3,
-        PermissionState::DeniedPartial => 4,
-        PermissionState::Ignored => 5,
+impl From<PermissionState> for u8 {
+    ghost from_gives = { λ state n. n ≡ state_number state };
+
+    fn from(state: PermissionState) -> u8 {
+        state as u8
+    }
+}
+
+// The state that a number names.
+impl TryFrom<u32> for PermissionState {
+    type Error = Refusal;
+
+    ghost try_from_gives = { λ n r. r ≡ known_state (state_of n) };
+
+    fn try_from(n: u32) -> Result<Self, Refusal> {
+        match n {
+            0 => Ok(PermissionState::Granted),
+            1 => Ok(PermissionState::GrantedPartial),
+            2 => Ok(PermissionState::Prompt),
+            3 => Ok(PermissionState::Denied),
+            4 => Ok(PermissionState::DeniedPartial),
+            5 => Ok(PermissionState::Ignored),
+            _ => Err(Refusal::UnknownState),
+        }
     }
 }
 
 // The mode that a number names.
-pub(crate) fn mode_of(n: u32) -> ModeRead
-    ensures { result ≡ mode_of n }
-{
-    match n {
-        0 => ModeRead::Mode(AllowPartial::TreatAsDenied),
-        1 => ModeRead::Mode(AllowPartial::TreatAsPartialGranted),
-        2 => ModeRead::Mode(AllowPartial::TreatAsGranted),
-        _ => ModeRead::Unknown,
+impl TryFrom<u32> for AllowPartial {
+    type Error = Refusal;
+
+    ghost try_from_gives = { λ n r. r ≡ known_mode (mode_of n) };
+
+    fn try_from(n: u32) -> Result<Self, Refusal> {
+        match n {
+            0 => Ok(AllowPartial::TreatAsDenied),
+            1 => Ok(AllowPartial::TreatAsPartialGranted),
+            2 => Ok(AllowPartial::TreatAsGranted),
+            _ => Err(Refusal::Unknown),
+        }
     }
 }
 
@@ -73,37 +95,16 @@ fn meet(path: &[u8], q: &[u8], resolved: bool) -> Met
     requires { (is_resolved path.now ≡ true) × (resolved ≡ is_resolved q.now) }
     ensures { Meets «path».now q.now result }
 {
-    if resolved {
-        if is_apart(path, q) {
-            return Met {
-                above: false,
-                below: false,
-            };
-        }
+    if resolved && is_apart(path, q) {
+        return Met {
+            above: false,
+            below: false,
+        };
     }
-    let compared = relate(path, q);
-    let relation = compared.relation;
-    match relation {
-        Relation::Equal => Met {
-            above: true,
-            below: true,
-        },
-        Relation::Prefix => Met {
-            above: true,
-            below: false,
-        },
-        Relation::Extension => Met {
-            above: false,
-            below: true,
-        },
-        Relation::Less => Met {
-            above: false,
-            below: false,
-        },
-        Relation::Greater => Met {
-            above: false,
-            below: false,
-        },
+    let relation = relate(path, q).relation;
+    Met {
+        above: matches!(relation, Relation::Equal | Relation::Prefix),
+        below: matches!(relation, Relation::Equal | Relation::Extension),
     }
 }
 
@@ -111,11 +112,10 @@ fn meet(path: &[u8], q: &[u8], resolved: bool) -> Met
 fn matches(kind: Kind, met: Met) -> bool
     ensures { result ≡ matches_by kind met.above met.below }
 {
-    match kind {
-        Kind::G => met.above,
-        Kind::D => met.above,
-        Kind::P => met.below,
-        Kind::I => met.above,
+    if kind == Kind::P {
+        met.below
+    } else {
+        met.above
     }
 }
 
@@ -123,37 +123,24 @@ fn matches(kind: Kind, met: Met) -> bool
 fn is_partial(partial: bool, kind: Kind, below: bool) -> bool
     ensures { result ≡ partial_by partial kind below }
 {
-    match kind {
-        Kind::G => partial,
-        Kind::D => partial | below,
-        Kind::P => partial,
-        Kind::I => partial | below,
-    }
+    partial || (matches!(kind, Kind::D | Kind::I) && below)
 }
 
 // ---- the walk
 
 // The first match, with one entry more: an earlier one stays.
-fn first_of(first: FirstMatch, kind: Kind, hit: bool) -> FirstMatch
+fn first_of(first: Option<Kind>, kind: Kind, hit: bool) -> Option<Kind>
     ensures { result ≡ first_of first kind hit }
 {
-    if hit {
-        match first {
-            FirstMatch::Nothing => FirstMatch::Match(kind),
-            FirstMatch::Match(earlier) => FirstMatch::Match(earlier),
-        }
-    } else {
-        first
-    }
+    first.or(hit.then_some(kind))
 }
 
 // What was seen, with one entry more.
 fn with_entry(seen: Seen, kind: Kind, met: Met) -> Seen
     ensures { SeesMore kind met seen result }
 {
-    let first = seen.first;
     Seen {
-        first: first_of(first, kind, matches(kind, met)),
+        first: first_of(seen.first, kind, matches(kind, met)),
         partial: is_partial(seen.partial, kind, met.below),
     }
 }
@@ -162,27 +149,14 @@ fn with_entry(seen: Seen, kind: Kind, met: Met) -> Seen
 fn settles(kind: Kind, mode: AllowPartial, partial: bool) -> bool
     ensures { result ≡ settles kind mode partial }
 {
-    match kind {
-        Kind::G => match mode {
-            AllowPartial::TreatAsDenied => partial,
-            AllowPartial::TreatAsPartialGranted => partial,
-            AllowPartial::TreatAsGranted => true,
-        },
-        Kind::D => true,
-        Kind::P => true,
-        Kind::I => true,
-    }
+    kind != Kind::G || mode == AllowPartial::TreatAsGranted || partial
 }
 
 // Whether no later entry can change the state.
 fn is_settled(seen: Seen, mode: AllowPartial) -> bool
     ensures { result ≡ is_settled seen.first mode seen.partial }
 {
-    let first = seen.first;
-    match first {
-        FirstMatch::Nothing => false,
-        FirstMatch::Match(kind) => settles(kind, mode, seen.partial),
-    }
+    seen.first.is_some_and(|kind| settles(kind, mode, seen.partial))
 }
 
 // The entries in list order, each read once, until the state is settled.
@@ -192,7 +166,7 @@ fn walk(mem: &[u8], mode: AllowPartial, q: &[u8]) -> Seen
 {
     let resolved = is_resolved(q);
     let mut seen = Seen {
-        first: FirstMatch::Nothing,
+        first: None,
         partial: false,
     };
     let mut cursor = reading::first(mem);
@@ -216,7 +190,7 @@ fn see(mem: &[u8], mode: AllowPartial, d: Descriptor, q: &[u8]) -> Seen
 {
     match d {
         Descriptor::NoPath => Seen {
-            first: FirstMatch::Nothing,
+            first: None,
             partial: has_mark(mem, HAS_FLAG_DENIED) || has_mark(mem, HAS_FLAG_IGNORED),
         },
         Descriptor::Path => walk(mem, mode, q),
@@ -229,14 +203,10 @@ fn see(mem: &[u8], mode: AllowPartial, d: Descriptor, q: &[u8]) -> Seen
 fn query_allowed_desc(partial: bool, mode: AllowPartial) -> PermissionState
     ensures { result ≡ allowed partial mode }
 {
-    if partial {
-        match mode {
-            AllowPartial::TreatAsDenied => PermissionState::DeniedPartial,
-            AllowPartial::TreatAsPartialGranted => PermissionState::GrantedPartial,
-            AllowPartial::TreatAsGranted => PermissionState::Granted,
-        }
-    } else {
-        PermissionState::Granted
+    match (partial, mode) {
+        (true, AllowPartial::TreatAsDenied) => PermissionState::DeniedPartial,
+        (true, AllowPartial::TreatAsPartialGranted) => PermissionState::GrantedPartial,
+        _ => PermissionState::Granted,
     }
 }
 
@@ -246,8 +216,7 @@ fn decided_by(kind: Kind, state: PermissionState) -> PermissionState
 {
     match kind {
         Kind::G => state,
-        Kind::D => PermissionState::Denied,
-        Kind::P => PermissionState::Denied,
+        Kind::D | Kind::P => PermissionState::Denied,
         Kind::I => PermissionState::Ignored,
     }
 }
@@ -256,11 +225,7 @@ fn decided_by(kind: Kind, state: PermissionState) -> PermissionState
 fn is_denied_partial(partial: bool, mode: AllowPartial) -> bool
     ensures { result ≡ is_denied_mode mode && partial }
 {
-    match mode {
-        AllowPartial::TreatAsDenied => partial,
-        AllowPartial::TreatAsPartialGranted => false,
-        AllowPartial::TreatAsGranted => false,
-    }
+    mode == AllowPartial::TreatAsDenied && partial
 }
 
 // Whether what no entry decides is denied. With no path, a denial at the prompt counts too, of all or of any path.
@@ -268,13 +233,13 @@ fn is_denied(mem: &[u8], d: Descriptor) -> bool
     requires { holds mem.now ≡ true }
     ensures { (q : List ℕ) → result ≡ is_denied (table_of mem.now) (query_of d q) }
 {
-    if has_switch(mem, FLAG_DENIED) {
-        return true;
-    }
-    match d {
-        Descriptor::NoPath => has_switch(mem, PROMPT_DENIED) || has_mark(mem, HAS_PROMPT_DENIED),
-        Descriptor::Path => false,
-    }
+    has_switch(mem, FLAG_DENIED)
+        || match d {
+            Descriptor::NoPath => {
+                has_switch(mem, PROMPT_DENIED) || has_mark(mem, HAS_PROMPT_DENIED)
+            }
+            Descriptor::Path => false,
+        }
 }
 
 // The state where no entry decides.
@@ -283,18 +248,16 @@ fn without_match(mem: &[u8], mode: AllowPartial, d: Descriptor, partial: bool) -
     ensures { (q : List ℕ) → result ≡ without_match (table_of mem.now) mode (query_of d q) partial }
 {
     if has_switch(mem, FLAG_IGNORED) {
-        return PermissionState::Ignored;
+        PermissionState::Ignored
+    } else if is_denied_partial(partial, mode) {
+        PermissionState::DeniedPartial
+    } else if is_denied(mem, d) {
+        PermissionState::Denied
+    } else if has_switch(mem, GRANTED) {
+        query_allowed_desc(partial, mode)
+    } else {
+        PermissionState::Prompt
     }
-    if is_denied_partial(partial, mode) {
-        return PermissionState::DeniedPartial;
-    }
-    if is_denied(mem, d) {
-        return PermissionState::Denied;
-    }
-    if has_switch(mem, GRANTED) {
-        return query_allowed_desc(partial, mode);
-    }
-    PermissionState::Prompt
 }
 
 // The state that follows from what was seen, the switches and the marks.
@@ -302,10 +265,9 @@ fn state_of(mem: &[u8], mode: AllowPartial, d: Descriptor, seen: Seen) -> Permis
     requires { holds mem.now ≡ true }
     ensures { (q : List ℕ) → Follows (table_of mem.now) mode (query_of d q) seen result }
 {
-    let first = seen.first;
-    match first {
-        FirstMatch::Nothing => without_match(mem, mode, d, seen.partial),
-        FirstMatch::Match(kind) => decided_by(kind, query_allowed_desc(seen.partial, mode)),
+    match seen.first {
+        None => without_match(mem, mode, d, seen.partial),
+        Some(kind) => decided_by(kind, query_allowed_desc(seen.partial, mode)),
     }
 }
 
@@ -322,17 +284,9 @@ pub fn is_allow_all(mem: &[u8]) -> bool
     requires { holds mem.now ≡ true }
     ensures { result ≡ is_allow_all (table_of mem.now) }
 {
-    if !has_switch(mem, GRANTED) {
-        return false;
-    }
-    if has_switch(mem, FLAG_DENIED) {
-        return false;
-    }
-    if has_switch(mem, FLAG_IGNORED) {
-        return false;
-    }
-    if has_switch(mem, PROMPT_DENIED) {
-        return false;
-    }
-    reading::marks(mem) == 0
+    has_switch(mem, GRANTED)
+        && !has_switch(mem, FLAG_DENIED)
+        && !has_switch(mem, FLAG_IGNORED)
+        && !has_switch(mem, PROMPT_DENIED)
+        && reading::marks(mem) == 0
 }

@@ -5,7 +5,7 @@ ghost use Rattle.input.specs.Parts.{ReadsAfter, KeepsRest};
 
 use crate::Came;
 use std::io::Read;
-use table::writing::move_down;
+use table::writing::move_bytes;
 
 // Reads once, after the first `left` bytes of the buffer.
 pub fn read_after<R: Read>(reader: &mut R, buffer: &mut [u8], left: usize) -> Came
@@ -24,6 +24,6 @@ pub fn keep_rest(buffer: &mut [u8], len: usize, taken: usize) -> usize
     ensures { KeepsRest buffer.old len taken buffer.new result }
 {
     let left = len - taken;
-    move_down(buffer, taken, 0, left);
+    move_bytes(buffer, taken, 0, left);
     left
 }

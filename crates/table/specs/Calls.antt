@@ -2,7 +2,6 @@
 use Rattle.std.specs.Prelude.{ℕ, ◌≡◌, List, [], ◌∷◌, not, length, ltb, Some, Ok, Err}
 use Rattle.refusals.specs.declared.Refusal.TheVariants.{NoTable}
 use Rattle.refusals.specs.Refusals.{when, first_cause, Result, unless, cause_of}
-use Rattle.table.specs.declared.Outcome.{Outcome}
 use Rattle.table.specs.Tables.{Table, fresh}
 use Rattle.table.specs.Acts.{Act}
 use Rattle.table.specs.Memory.{table_bytes, table_of, holds, put}
@@ -28,6 +27,6 @@ unfoldable pub put_in : Result Table → List ℕ → List ℕ
 put_in (Err cause) m = m
 put_in (Ok t) m = put t m
 
-pub record MakesFresh (m m' : List ℕ) (r : Outcome) : Type 0 where
+pub record MakesFresh (m m' : List ℕ) (r : Result Unit) : Type 0 where
   pub outcome : r ≡ outcome_of (cause_of (fresh_in m))
   pub memory : m' ≡ put_in (fresh_in m) m

@@ -11,23 +11,15 @@ use crate::{
     SWITCHES_AT, TABLE_BYTES, TABLE_HEAD,
 };
 use paths::MAX_PATH;
+use paths::resolving::is_resolved;
 
 // Whether the entry at an offset has a known kind and a resolved path within its limit, with `room` path bytes left.
 fn entry_fits(mem: &[u8], room: usize, at: usize) -> bool
     requires { at + entry_head + room ≤ length mem.now }
     ensures { result ≡ entry_fits mem.now room at }
 {
-    if mem[at] > MAX_KIND {
-        return false;
-    }
     let len = word_at(mem, at + LENGTH_OFFSET);
-    if len > MAX_PATH {
-        return false;
-    }
-    if len > room {
-        return false;
-    }
-    paths::resolving::is_resolved(entry_path(mem, at))
+    mem[at] <= MAX_KIND && len <= MAX_PATH && len <= room && is_resolved(entry_path(mem, at))
 }
 
 // Whether `count` entries from the first on fit, and are of the kinds that the marks say.
@@ -35,19 +27,17 @@ fn entries_fit(mem: &[u8], count: usize) -> bool
     requires { (table_bytes ≤ length mem.now) × (count ≤ max_entries) }
     ensures { result ≡ scanned mem.now count max_path_bytes 0 table_head }
 {
-    let mut left = count;
-    let mut room: usize = MAX_PATH_BYTES;
-    let mut at: usize = TABLE_HEAD;
-    let mut seen: u8 = 0;
-    while left > 0 {
+    let mut room = MAX_PATH_BYTES;
+    let mut at = TABLE_HEAD;
+    let mut seen = 0;
+    for _ in 0..count {
         if !entry_fits(mem, room, at) {
             return false;
         }
         seen = marked(kind_from(mem[at]), seen);
         let len = word_at(mem, at + LENGTH_OFFSET);
         room -= len;
-        at = at + ENTRY_HEAD + len;
-        left -= 1;
+        at += ENTRY_HEAD + len;
     }
     seen == mem[MARKS_AT]
 }

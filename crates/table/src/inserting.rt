@@ -8,6 +8,7 @@ ghost use Rattle.table.specs.Changing.{InsertsEntry};
 
 use crate::bits::marked;
 use crate::{ENTRY_HEAD, Kind, MARKS_AT, Place, placing, reading, writing};
+use refusals::Refusal;
 
 // Sets the mark of a kind: an insert that finds its entry in the list.
 fn set_mark(mem: &mut [u8], kind: Kind)
@@ -28,29 +29,26 @@ fn insert_at(mem: &mut [u8], place: usize, kind: Kind, path: &[u8])
     let start = reading::entry_offset(mem, place);
     let end = reading::entry_offset(mem, count);
     let marks = marked(kind, mem[MARKS_AT]);
-    writing::move_up(mem, start, start + ENTRY_HEAD + path.len(), end - start);
+    writing::move_bytes(mem, start, start + ENTRY_HEAD + path.len(), end - start);
     writing::write_entry(mem, start, kind, path);
     writing::set_count(mem, count + 1);
     mem[MARKS_AT] = marks;
 }
 
-// Inserts an entry: false, and nothing changes, where one would be added and there is no room for it.
-pub(crate) fn insert_entry(mem: &mut [u8], kind: Kind, path: &[u8]) -> bool
+// Inserts an entry: it is refused, and nothing changes, where one would be added and there is no room for it.
+pub(crate) fn insert_entry(mem: &mut [u8], kind: Kind, path: &[u8]) -> Result<(), Refusal>
     requires mem_value { holds mem.old ≡ true }
     requires path_value { is_entry (record { kind = kind; path = path.now }) ≡ true }
     ensures { InsertsEntry mem.old mem.new (record { kind = kind; path = path.now }) result }
 {
     match placing::place(mem, kind, path) {
-        Place::Found => {
-            set_mark(mem, kind);
-            true
-        }
+        Place::Found => set_mark(mem, kind),
         Place::At(k) => {
             if !placing::has_room(mem, path.len()) {
-                return false;
+                return Err(Refusal::TableFull);
             }
             insert_at(mem, k, kind, path);
-            true
         }
     }
+    Ok(())
 }

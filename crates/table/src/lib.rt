@@ -1,8 +1,6 @@
 // The table: entries in sequence, switches and marks, in lent memory, and the acts on it. The definitions are in specs/.
 #![tactic(auto)]
 
-use refusals::Refusal;
-
 pub mod acting;
 pub mod bits;
 pub mod carrying;
@@ -10,6 +8,7 @@ pub mod comparing;
 pub mod copying;
 pub mod holding;
 pub mod inserting;
+pub mod kinds;
 pub mod listing;
 pub mod placing;
 pub mod reading;
@@ -59,7 +58,7 @@ pub const HAS_PROMPT_DENIED: u8 = 2;
 pub const HAS_FLAG_IGNORED: u8 = 4;
 
 // The kinds of an entry, by the scope's letters. The Rust's names are Granted, FlagDenied, PromptDenied and FlagIgnored.
-#[derive(Clone, Copy)]
+#[derive(Clone, Copy, PartialEq, Eq)]
 pub enum Kind {
     G,
     D,
@@ -67,25 +66,11 @@ pub enum Kind {
     I,
 }
 
-// The kind that a number names, if it names one.
-#[derive(Clone, Copy)]
-pub enum KindRead {
-    Kind(Kind),
-    Unknown,
-}
-
 // Where an insert puts its entry: nowhere, as an equal one is found, or at a place of the list.
 #[derive(Clone, Copy)]
 pub enum Place {
     Found,
     At(usize),
-}
-
-// Which grants an act drops: those whose path is a prefix of the act's, or all.
-#[derive(Clone, Copy)]
-pub enum Dropped {
-    Prefixes,
-    All,
 }
 
 // What a call makes of a table: nothing, or an act, without its path, which is lent beside it.
@@ -98,13 +83,6 @@ pub enum Action {
     RevokeAll,
 }
 
-// What a call on a table answers.
-#[derive(Clone, Copy)]
-pub enum Outcome {
-    Done,
-    Refused(Refusal),
-}
-
 // A place in a table's list: where the entry there begins, and how many entries are left, it among them.
 #[derive(Clone, Copy)]
 pub struct Cursor {
@@ -112,9 +90,10 @@ pub struct Cursor {
     left: usize,
 }
 
-// The entry at a place of a table's list: its kind, where its path begins in the memory and how many bytes it has; or no entry.
+// An entry of a table's list: its kind, where its path begins in the memory and how many bytes it has.
 #[derive(Clone, Copy)]
-pub enum Listed {
-    Entry(Kind, usize, usize),
-    Nothing,
+pub struct Listed {
+    pub kind: Kind,
+    pub at: usize,
+    pub size: usize,
 }

@@ -1,23 +1,10 @@
 // Listing a table: how many entries it has, how many bytes it takes, and the entry at each place.
 ghost use Rattle.std.specs.Prelude.{◌≡◌, true, ◌≤◌, length};
-ghost use Rattle.table.specs.Entries.{kind_number};
 ghost use Rattle.table.specs.Tables.{max_entries};
 ghost use Rattle.table.specs.Memory.{table_bytes, table_of, holds};
 ghost use Rattle.table.specs.Listing.{used_bytes, listed};
 
-use crate::{ENTRY_HEAD, Kind, LENGTH_OFFSET, Listed, reading};
-
-// The number of a kind.
-pub fn kind_number(kind: Kind) -> u8
-    ensures { result ≡ kind_number kind }
-{
-    match kind {
-        Kind::G => 0,
-        Kind::D => 1,
-        Kind::P => 2,
-        Kind::I => 3,
-    }
-}
+use crate::{ENTRY_HEAD, LENGTH_OFFSET, Listed, reading};
 
 // How many entries the list has.
 pub fn count(mem: &[u8]) -> usize
@@ -35,15 +22,18 @@ pub fn used(mem: &[u8]) -> usize
     reading::entry_offset(mem, reading::word_at(mem, 0))
 }
 
-// The entry at a place of the list, and where its path stands.
-pub fn entry_at(mem: &[u8], place: usize) -> Listed
+// The entry at a place of the list, and where its path stands, if there is one.
+pub fn entry_at(mem: &[u8], place: usize) -> Option<Listed>
     requires { holds mem.now ≡ true }
     ensures { result ≡ listed mem.now place }
 {
     if place >= reading::word_at(mem, 0) {
-        return Listed::Nothing;
+        return None;
     }
     let at = reading::entry_offset(mem, place);
-    let len = reading::word_at(mem, at + LENGTH_OFFSET);
-    Listed::Entry(reading::kind_from(mem[at]), at + ENTRY_HEAD, len)
+    Some(Listed {
+        kind: reading::kind_from(mem[at]),
+        at: at + ENTRY_HEAD,
+        size: reading::word_at(mem, at + LENGTH_OFFSET),
+    })
 }

@@ -1,13 +1,10 @@
 // Reading a table in lent memory: numbers, kinds, switches and marks, and its entries in list order, one after the other, by a cursor.
 ghost use Rattle.std.specs.Prelude.{◌≡◌, true, ◌+◌, ◌<◌, ◌≤◌, length};
-ghost use Rattle.table.specs.Entries.{kind_of};
 ghost use Rattle.table.specs.Tables.{has, max_switches};
 ghost use Rattle.table.specs.Memory.{table_head, word_at, next_at, kind_from, entry_at, offset_at, table_of, are_within, holds};
 ghost use Rattle.table.specs.Reading.{Reads, first_entry, is_at_entry, entry_in, next_entry};
 
-use crate::{
-    Cursor, ENTRY_HEAD, Kind, KindRead, LENGTH_OFFSET, MARKS_AT, SWITCHES_AT, TABLE_HEAD, bits,
-};
+use crate::{Cursor, ENTRY_HEAD, Kind, LENGTH_OFFSET, MARKS_AT, SWITCHES_AT, TABLE_HEAD, bits};
 
 // ---- bytes
 
@@ -24,19 +21,6 @@ pub fn word_at(mem: &[u8], at: usize) -> usize
     ensures { (result ≡ word_at mem.now at) × (result < 65536) }
 {
     wide(mem[at]) * 256 + wide(mem[at + 1])
-}
-
-// The kind that a number names.
-pub fn kind_of(n: u32) -> KindRead
-    ensures { result ≡ kind_of n }
-{
-    match n {
-        0 => KindRead::Kind(Kind::G),
-        1 => KindRead::Kind(Kind::D),
-        2 => KindRead::Kind(Kind::P),
-        3 => KindRead::Kind(Kind::I),
-        _ => KindRead::Unknown,
-    }
 }
 
 // The kind of a kind byte.
@@ -68,12 +52,9 @@ pub(crate) fn hop(mem: &[u8], from: usize, n: usize) -> usize
     requires { are_within mem.now n from ≡ true }
     ensures { result ≡ offset_at mem.now n from }
 {
-    let mut left = n;
     let mut at = from;
-    while left > 0 {
-        let len = word_at(mem, at + LENGTH_OFFSET);
-        at = at + ENTRY_HEAD + len;
-        left -= 1;
+    for _ in 0..n {
+        at += ENTRY_HEAD + word_at(mem, at + LENGTH_OFFSET);
     }
     at
 }

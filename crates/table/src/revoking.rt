@@ -1,49 +1,32 @@
 // Revoking grants and setting the switches: acts on memory that holds a table. Scope, "A call comes in" (revoke).
-ghost use Rattle.std.specs.Prelude.{◌≡◌, true, ◌<◌, ◌≤◌, length, set};
+ghost use Rattle.std.specs.Prelude.{◌≡◌, ℕ, List, Bool, true, ◌<◌, ◌≤◌, length, set};
 ghost use Rattle.table.specs.Tables.{max_switches};
 ghost use Rattle.table.specs.Acts.{set_switches, revoke, revoke_all, dropped_by, dropping};
-ghost use Rattle.table.specs.Memory.{switches_at, next_at, entry_at, table_of, holds, put, do_act};
+ghost use Rattle.table.specs.Changing.{Selects};
+ghost use Rattle.table.specs.Memory.{switches_at, table_of, holds, put, do_act};
 
 use crate::bits::clear_bit;
-use crate::{
-    Dropped, ENTRY_HEAD, GRANTED, LENGTH_OFFSET, SWITCHES_AT, TABLE_HEAD, reading, writing,
-};
+use crate::{ENTRY_HEAD, GRANTED, Kind, LENGTH_OFFSET, SWITCHES_AT, TABLE_HEAD, reading, writing};
 use paths::relating::is_prefix;
 
-// Whether a revoke drops the entry at an offset: a grant that is selected.
-fn is_dropped(mem: &[u8], at: usize, which: Dropped, q: &[u8]) -> bool
-    requires { next_at mem.now at ≤ length mem.now }
-    ensures { result ≡ dropped_by which q.now (entry_at mem.now at) }
+// Drops the grants whose paths are selected, and closes the gaps: each entry that stays is moved down at most once.
+fn drop_grants<F: Fn(&[u8]) -> bool>(mem: &mut [u8], selects: F)
+    requires mem_value { holds mem.old ≡ true }
+    requires callable { F.IsAlwaysCallable selects }
+    ensures { (selected : List ℕ → Bool) → Selects F.Fn selects selected → mem.new ≡ put (dropping (dropped_by selected) (table_of mem.old)) mem.old }
 {
-    if mem[at] != 0 {
-        return false;
-    }
-    match which {
-        Dropped::Prefixes => is_prefix(reading::entry_path(mem, at), q),
-        Dropped::All => true,
-    }
-}
-
-// Drops the grants that a revoke drops, and closes the gaps: each entry that stays is moved down at most once.
-fn drop_grants(mem: &mut [u8], which: Dropped, q: &[u8])
-    requires { holds mem.old ≡ true }
-    ensures { mem.new ≡ put (dropping (dropped_by which q.now) (table_of mem.old)) mem.old }
-{
-    let mut left = reading::word_at(mem, 0);
     let mut kept: usize = 0;
-    let mut from: usize = TABLE_HEAD;
-    let mut to: usize = TABLE_HEAD;
-    while left > 0 {
+    let mut from = TABLE_HEAD;
+    let mut to = TABLE_HEAD;
+    for _ in 0..reading::word_at(mem, 0) {
         let size = reading::word_at(mem, from + LENGTH_OFFSET) + ENTRY_HEAD;
-        left -= 1;
-        if is_dropped(mem, from, which, q) {
-            from += size;
-        } else {
-            writing::move_down(mem, from, to, size);
+        let granted = reading::kind_from(mem[from]) == Kind::G;
+        if !(granted && selects(reading::entry_path(mem, from))) {
+            writing::move_bytes(mem, from, to, size);
             to += size;
             kept += 1;
-            from += size;
         }
+        from += size;
     }
     writing::set_count(mem, kept);
 }
@@ -61,7 +44,7 @@ pub(crate) fn revoke_path(mem: &mut [u8], q: &[u8])
     requires { holds mem.old ≡ true }
     ensures { mem.new ≡ do_act mem.old (revoke q.now) }
 {
-    drop_grants(mem, Dropped::Prefixes, q);
+    drop_grants(mem, |path| is_prefix(path, q));
 }
 
 // Drops every grant, and clears the switch of the grants.
@@ -69,7 +52,7 @@ pub(crate) fn revoke_grants(mem: &mut [u8])
     requires { holds mem.old ≡ true }
     ensures { mem.new ≡ do_act mem.old revoke_all }
 {
-    drop_grants(mem, Dropped::All, b"");
+    drop_grants(mem, |_| true);
     let switches = clear_bit(mem[SWITCHES_AT], GRANTED);
     write_switches(mem, switches);
 }

@@ -3,32 +3,15 @@ ghost use Rattle.std.specs.Prelude.{◌≡◌, ◌+◌, ◌<◌, ◌≤◌, leng
 ghost use Rattle.paths.specs.Copying.{overwrite, Appends};
 ghost use Rattle.table.specs.Memory.{table_head, entry_head, word, head_bytes, encode_entry};
 
-use crate::listing::kind_number;
 use crate::{ENTRY_HEAD, Kind, MARKS_AT, SWITCHES_AT};
 use paths::copying::copy_in;
 
-// Moves n bytes to a higher offset, the last byte first.
-pub(crate) fn move_up(mem: &mut [u8], from: usize, to: usize, n: usize)
-    requires { (from ≤ to) × (to + n ≤ length mem.old) }
+// Moves n bytes from an offset to another; the two runs of bytes may overlap.
+pub fn move_bytes(mem: &mut [u8], from: usize, to: usize, n: usize)
+    requires { (from + n ≤ length mem.old) × (to + n ≤ length mem.old) }
     ensures { mem.new ≡ overwrite mem.old to (take n (drop from mem.old)) }
 {
-    let mut left = n;
-    while left > 0 {
-        left -= 1;
-        mem[to + left] = mem[from + left];
-    }
-}
-
-// Moves n bytes to a lower offset, the first byte first.
-pub fn move_down(mem: &mut [u8], from: usize, to: usize, n: usize)
-    requires { (to ≤ from) × (from + n ≤ length mem.old) }
-    ensures { mem.new ≡ overwrite mem.old to (take n (drop from mem.old)) }
-{
-    let mut i: usize = 0;
-    while i < n {
-        mem[to + i] = mem[from + i];
-        i += 1;
-    }
+    mem.copy_within(from..from + n, to);
 }
 
 // Writes the count.
@@ -57,7 +40,7 @@ pub(crate) fn write_entry(mem: &mut [u8], at: usize, kind: Kind, path: &[u8])
     ensures { mem.new ≡ overwrite mem.old at (encode_entry (record { kind = kind; path = path.now })) }
 {
     let len = path.len();
-    mem[at] = kind_number(kind);
+    mem[at] = kind.into();
     mem[at + 1] = (len / 256) as u8;
     mem[at + 2] = (len % 256) as u8;
     copy_in(mem, at + ENTRY_HEAD, path);

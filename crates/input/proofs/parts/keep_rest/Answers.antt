@@ -9,4 +9,4 @@ pub returns : goal.returns
 returns c =
     let a = c.args in
     let all = moved a.buffer.now a.len a.taken (a.len - a.taken) c.requires.1 (omega (arith, c.requires.0)) in
-    record { count = refl; front = all c.move_down.ensures }
+    record { count = refl; front = all c.move_bytes.ensures }

@@ -6,8 +6,7 @@ use native.Mathlib.Omega.{arith}
 use lib.ListN.{length, take, drop, take-append-drop, length-append, length-drop}
 use lib.Seq.{take-take, take_at, take-add, drop_at, drop-append-le, drop-drop, length-take-le}
 use Rattle.paths.specs.Copying.{overwrite}
-use Rattle.input.specs.declared.Came.{Came}
-use Rattle.input.specs.declared.Came.TheVariants.{Bytes}
+use Rattle.std.specs.Prelude.{Result, Ok}
 use Rattle.input.specs.Parts.{buffer_bytes, ReadsAfter, KeepsRest}
 
 -- ---- the bytes that are left, at the buffer's front
@@ -48,7 +47,7 @@ module _ {input buffer : List ℕ} {taken left turns : ℕ} (B : Buffered input 
   pub buffered-kept : {after : List ℕ} → take left after ≡ take left buffer → length after ≡ length buffer → Buffered input after taken left turns
   buffered-kept k l = record { rest = k ∙ B.rest; within = B.within; inside = omega (arith, B.inside); room = l ∙ B.room; few = B.few }
 
-  module _ {after : List ℕ} {c : Came} (R : ReadsAfter buffer left after c) (same : length after ≡ length buffer) {more : ℕ} (f : c ≡ Bytes more) where
+  module _ {after : List ℕ} {E : Type 0} {c : Result ℕ E} (R : ReadsAfter buffer left after c) (same : length after ≡ length buffer) {more : ℕ} (f : c ≡ Ok more) where
     pub came-inside : left + more ≤ length after
     came-inside = omega (arith, rw f at R.inside)
 

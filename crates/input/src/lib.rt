@@ -8,10 +8,3 @@ pub mod words;
 // A proved loop has to end, and nothing says that the input does: so many reads, more than any run makes. What they can bring is counted in
 // 64 bits.
 pub const READS: u64 = 0x1_0000_0000_0000;
-
-// What one read answers: how many bytes came, 0 at the input's end.
-#[derive(Clone, Copy)]
-pub enum Came {
-    Bytes(usize),
-    Failed,
-}

@@ -3,19 +3,16 @@
 ghost use Rattle.std.specs.Prelude.{◌≤◌, length};
 ghost use Rattle.input.specs.Parts.{ReadsAfter, KeepsRest};
 
-use crate::Came;
+use std::io;
 use std::io::Read;
 use table::writing::move_bytes;
 
-// Reads once, after the first `left` bytes of the buffer.
-pub fn read_after<R: Read>(reader: &mut R, buffer: &mut [u8], left: usize) -> Came
+// Reads once, after the first `left` bytes of the buffer, and says how many bytes came: 0 at the input's end.
+pub fn read_after<R: Read>(reader: &mut R, buffer: &mut [u8], left: usize) -> io::Result<usize>
     requires { left ≤ length buffer.old }
     ensures { ReadsAfter buffer.old left buffer.new result }
 {
-    match reader.read(&mut buffer[left..]) {
-        Ok(more) => Came::Bytes(more),
-        Err(_) => Came::Failed,
-    }
+    reader.read(&mut buffer[left..])
 }
 
 // Of the buffer's first `len` bytes the first `taken` are done with: moves the others to its front, and says how many they are.

@@ -13,34 +13,6 @@ use Rattle.paths.specs.Copying.{Appends}
 use Rattle.table.proofs.Overwrites.{appends-none, appends-as, appends-more}
 use Rattle.text.specs.Escaping.{escaped_bytes, percent, is_plain, digit, escaped_byte, escaped}
 
--- ---- digits
-
-module _ {k : ℕ} where
-  pub digit_low : k < 10 → 48 + k ≡ digit k
-  digit_low h = rw (lt-ltb _ _ h)
-
-  pub digit-high : 10 ≤ k → 55 + k ≡ digit k
-  digit-high h = rw (le-ltb _ _ h)
-
--- ---- bytes that stand for themselves
-
-module _ (b : ℕ) where
-  pub plain-below : b < 0x21 → false ≡ is_plain b
-  unfolding is_plain
-  plain-below h = rw (lt-leb 0x21 b h)
-
-  pub plain-above : 0x7E < b → false ≡ is_plain b
-  unfolding is_plain
-  plain-above h = rw (lt-leb b 0x7E h) (off (leb 0x21 b))
-    where
-      off : (c : Bool) → false ≡ c && false && not (eqb b percent)
-      off true = refl
-      off false = refl
-
-  pub plain-between : 0x21 ≤ b → b ≤ 0x7E → not (eqb b percent) ≡ is_plain b
-  unfolding is_plain
-  plain-between l u = rw (le-leb 0x21 b l, le-leb b 0x7E u)
-
 -- ---- a byte as it is shown
 
 module _ (b : ℕ) {m : List ℕ} {at : ℕ} {m' : List ℕ} {r : ℕ} where

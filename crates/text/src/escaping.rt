@@ -10,38 +10,32 @@ pub fn hex_digit(k: u8) -> u8
     requires { k < 16 }
     ensures { result ≡ digit k }
 {
-    if k < 10 {
-        return b'0' + k;
-    }
-    b'A' - 10 + k
+    if k < 10 { b'0' + k } else { b'A' - 10 + k }
 }
 
 // Whether a byte stands for itself.
+#[tactic(auto, unfolding(crate::specs::Escaping::is_plain))]
 pub fn is_plain(byte: u8) -> bool
     ensures { result ≡ is_plain byte }
 {
-    if byte < 0x21 {
-        return false;
-    }
-    if byte > 0x7E {
-        return false;
-    }
-    byte != b'%'
+    byte.is_ascii_graphic() && byte != b'%'
 }
 
 // Writes a byte as it is shown.
+#[tactic(auto, unfolding(crate::specs::Escaping::escaped_byte))]
 pub fn append_byte(space: &mut [u8], at: usize, byte: u8) -> usize
     requires { at + escaped_bytes ≤ length space.old }
     ensures { Appends (escaped_byte byte) space.old at space.new result }
 {
     if is_plain(byte) {
-        return append(space, at, &[byte]);
+        append(space, at, &[byte])
+    } else {
+        append(
+            space,
+            at,
+            &[b'%', hex_digit(byte / 16), hex_digit(byte % 16)],
+        )
     }
-    append(
-        space,
-        at,
-        &[b'%', hex_digit(byte / 16), hex_digit(byte % 16)],
-    )
 }
 
 // Writes a path as it is shown.
@@ -50,10 +44,8 @@ pub fn escape(space: &mut [u8], at: usize, path: &[u8]) -> usize
     ensures { Appends (escaped path.now) space.old at space.new result }
 {
     let mut end = at;
-    let mut i: usize = 0;
-    while i < path.len() {
-        end = append_byte(space, end, path[i]);
-        i += 1;
+    for byte in path {
+        end = append_byte(space, end, *byte);
     }
     end
 }

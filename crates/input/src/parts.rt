@@ -5,7 +5,6 @@ ghost use Rattle.input.specs.Parts.{ReadsAfter, KeepsRest};
 
 use std::io;
 use std::io::Read;
-use table::writing::move_bytes;
 
 // Reads once, after the first `left` bytes of the buffer, and says how many bytes came: 0 at the input's end.
 pub fn read_after<R: Read>(reader: &mut R, buffer: &mut [u8], left: usize) -> io::Result<usize>
@@ -20,7 +19,6 @@ pub fn keep_rest(buffer: &mut [u8], len: usize, taken: usize) -> usize
     requires { (taken ≤ len) × (len ≤ length buffer.old) }
     ensures { KeepsRest buffer.old len taken buffer.new result }
 {
-    let left = len - taken;
-    move_bytes(buffer, taken, 0, left);
-    left
+    buffer.copy_within(taken..len, 0);
+    len - taken
 }

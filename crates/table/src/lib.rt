@@ -6,6 +6,7 @@ pub mod bits;
 pub mod carrying;
 pub mod comparing;
 pub mod copying;
+pub mod held;
 pub mod holding;
 pub mod inserting;
 pub mod kinds;

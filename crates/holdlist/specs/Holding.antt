@@ -5,7 +5,6 @@ pub use Rattle.records.specs.Numbers.{record_space}
 use Rattle.records.specs.Records.{Change, Read, change_words, read_first}
 use Rattle.standby.specs.declared.Numbers.{Numbers}
 use Rattle.standby.specs.declared.Arrival.{Arrival}
-use Rattle.standby.specs.declared.Arrival.TheVariants.{Applied, Repeat, Early, Taken, Refused}
 use Rattle.standby.specs.Arriving.{Left, arrival}
 use Rattle.input.specs.Words.{words_of}
 use Rattle.holdlist.specs.declared.Held.{Held}
@@ -75,17 +74,10 @@ held_on keep s input =
 
 -- ---- as the code has it
 
-abbrev pub is_refused : Arrival → Bool
-is_refused Applied = false
-is_refused Repeat = false
-is_refused Early = false
-is_refused Taken = false
-is_refused (Refused cause) = true
-
 -- what was held, once k words arrived with this answer and left these numbers
-unfoldable pub held_arrived : Held → ℕ → Numbers → Arrival → Held
-held_arrived held k n a =
-    cond (is_refused a) (record { numbers = held.numbers; words = held.words; stopped = true }) (record { numbers = n; words = held.words + k; stopped = false })
+unfoldable pub held_arrived : Held → ℕ → Numbers → Result Arrival → Held
+held_arrived held k n (Err cause) = record { numbers = held.numbers; words = held.words; stopped = true }
+held_arrived held k n (Ok arrival) = record { numbers = n; words = held.words + k; stopped = false }
 
 -- memory m and what was held
 abbrev pub standing : List ℕ → Held → Standing

@@ -7,11 +7,12 @@ ghost use Rattle.input.specs.Parts.{buffer_bytes};
 ghost use Rattle.holdlist.specs.Input.{HoldsInput};
 
 use input::parts::{keep_rest, read_after};
-use input::{Came, READS};
+use input::READS;
 use printing::{LISTING_BYTES, write_listing};
 use reading::hold_on;
 use records::RECORD_WORDS;
 use standby::Numbers;
+use std::io;
 use std::io::{Read, Write};
 use table::TABLE_BYTES;
 use table::acting::make_fresh;
@@ -33,15 +34,8 @@ pub struct Held {
     pub stopped: bool,
 }
 
-// What reading all of the input answers.
-#[derive(Clone, Copy)]
-enum Input {
-    Held(Held),
-    Unreadable,
-}
-
 // Holds all that a reader brings, part by part.
-fn hold_input<R: Read>(reader: &mut R, mem: &mut [u8], buffer: &mut [u8]) -> Input
+fn hold_input<R: Read>(reader: &mut R, mem: &mut [u8], buffer: &mut [u8]) -> io::Result<Held>
     requires { length buffer.old ≡ buffer_bytes }
     ensures { HoldsInput mem.old mem.new result }
 {
@@ -56,11 +50,11 @@ fn hold_input<R: Read>(reader: &mut R, mem: &mut [u8], buffer: &mut [u8]) -> Inp
         stopped: false,
     };
     let mut left: usize = 0;
-    let mut turns = READS;
-    while turns > 0 && !held.stopped {
-        let Came::Bytes(more) = read_after(reader, buffer, left) else {
-            return Input::Unreadable;
-        };
+    for _ in 0..READS {
+        if held.stopped {
+            break;
+        }
+        let more = read_after(reader, buffer, left)?;
         if more == 0 {
             break;
         }
@@ -68,22 +62,21 @@ fn hold_input<R: Read>(reader: &mut R, mem: &mut [u8], buffer: &mut [u8]) -> Inp
         let next = hold_on(mem, held, &buffer[..len], KEPT_BYTES);
         left = keep_rest(buffer, len, 4 * (next.words - held.words));
         held = next;
-        turns -= 1;
     }
-    Input::Held(hold_on(mem, held, &buffer[..left], 0))
+    Ok(hold_on(mem, held, &buffer[..left], 0))
 }
 
 fn main(rt: HostRuntime) {
     let mut mem = [0u8; TABLE_BYTES];
-    make_fresh(&mut mem);
+    let _ = make_fresh(&mut mem);
     let mut buffer = [0u8; BUFFER_BYTES];
     match hold_input(&mut rt.stdin(), &mut mem, &mut buffer) {
-        Input::Unreadable => {
+        Err(_) => {
             let _ = rt
                 .stderr()
                 .write_all(b"holdlist: standard input cannot be read\n");
         }
-        Input::Held(held) => {
+        Ok(held) => {
             let mut space = [0u8; LISTING_BYTES];
             let n = write_listing(&mut space, &mem, held);
             if rt.stdout().write_all(&space[..n]).is_err() {

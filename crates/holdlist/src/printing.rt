@@ -12,7 +12,7 @@ ghost use Rattle.holdlist.specs.Lines.{header_bytes, header, line_bytes, entry_l
 use crate::Held;
 use paths::copying::append;
 use standby::owing::owed;
-use standby::{Numbers, Owed};
+use standby::Numbers;
 use table::{Kind, MAX_ENTRIES, MAX_PATH_BYTES, listing, reading};
 use text::decimals::append_labelled;
 use text::escaping::escape;
@@ -35,10 +35,7 @@ fn count_owed(numbers: Numbers) -> u64
     requires { conflict numbers ≡ false }
     ensures { result ≡ owed_of numbers }
 {
-    match owed(numbers) {
-        Owed::Changes(k) => k,
-        Owed::Refused(_) => 0,
-    }
+    owed(numbers).unwrap()
 }
 
 // Writes the header from the space's start.
@@ -94,11 +91,11 @@ pub fn write_listing(space: &mut [u8], mem: &[u8], held: Held) -> usize
     requires { (holds mem.now ≡ true) × (conflict held.numbers ≡ false) × (listing_bytes ≤ length space.old) }
     ensures { Appends (listing (standing mem.now held)) space.old 0 space.new result }
 {
-    let numbers = held.numbers;
-    let from = write_header(space, mem, numbers);
+    let from = write_header(space, mem, held.numbers);
     let end = append_entries(space, from, mem);
     if held.stopped {
-        return append_stopped(space, end, held.words);
+        append_stopped(space, end, held.words)
+    } else {
+        end
     }
-    end
 }

@@ -1,13 +1,14 @@
 // Reading records into a standby: word after word, record after record.
 ghost use Rattle.std.specs.Prelude.{◌≡◌, true, ◌+◌, ◌*◌, ◌<◌, ◌≤◌, ◌^◌, length};
 ghost use Rattle.standby.specs.Arriving.{arrival};
-ghost use Rattle.holdlist.specs.Holding.{held_arrived, is_refused, after_arrival, after_next, held_from, beginning, held_on, standing, Holds};
+ghost use Rattle.holdlist.specs.Holding.{held_arrived, after_arrival, after_next, held_from, beginning, held_on, standing, Holds};
 
 use crate::Held;
 use input::words::take_words;
 use paths::MAX_PATH;
+use records::RECORD_WORDS;
 use records::reading::read_record;
-use records::{RECORD_WORDS, Record};
+use refusals::Refusal;
 use standby::arriving::arrive;
 use standby::{Arrival, Numbers};
 
@@ -15,39 +16,29 @@ use standby::{Arrival, Numbers};
 fn stop(held: Held) -> Held
     ensures { result ≡ (record { numbers = held.numbers; words = held.words; stopped = true }) }
 {
-    let numbers = held.numbers;
     Held {
-        numbers,
-        words: held.words,
         stopped: true,
-    }
-}
-
-// Whether an arrival was refused.
-fn is_refused(answer: Arrival) -> bool
-    ensures { result ≡ is_refused answer }
-{
-    match answer {
-        Arrival::Applied => false,
-        Arrival::Repeat => false,
-        Arrival::Early => false,
-        Arrival::Taken => false,
-        Arrival::Refused(_) => true,
+        ..held
     }
 }
 
 // What is held after an arrival of `count` words: one that is refused ends reading.
-fn hold_arrived(held: Held, count: usize, numbers: Numbers, answer: Arrival) -> Held
+fn hold_arrived(
+    held: Held,
+    count: usize,
+    numbers: Numbers,
+    answer: Result<Arrival, Refusal>,
+) -> Held
     requires { held.words + count < 2 ^ 64 }
     ensures { result ≡ held_arrived held count numbers answer }
 {
-    if is_refused(answer) {
-        return stop(held);
-    }
-    Held {
-        numbers,
-        words: held.words + count,
-        stopped: false,
+    match answer {
+        Ok(_) => Held {
+            numbers,
+            words: held.words + count,
+            stopped: false,
+        },
+        Err(_) => stop(held),
     }
 }
 
@@ -71,8 +62,8 @@ fn hold_next(mem: &mut [u8], held: Held, bytes: &[u8]) -> Held
     let count = take_words(bytes, from, &mut words);
     let mut space = [0u8; MAX_PATH];
     match read_record(&words[..count], 0, &mut space) {
-        Record::Malformed => stop(held),
-        Record::Change(_, _, _, _, end) => hold_record(mem, held, &words[..end]),
+        Some(record) => hold_record(mem, held, &words[..record.end]),
+        None => stop(held),
     }
 }
 
@@ -99,12 +90,9 @@ pub fn hold_on(mem: &mut [u8], held: Held, bytes: &[u8], keep: usize) -> Held
     if held.stopped {
         return held;
     }
-    let before = held.numbers;
-    let next = hold(mem, before, bytes, keep);
-    let numbers = next.numbers;
+    let next = hold(mem, held.numbers, bytes, keep);
     Held {
-        numbers,
         words: held.words + next.words,
-        stopped: next.stopped,
+        ..next
     }
 }

@@ -33,7 +33,7 @@ use refusals::Refusal;
 use results::calling::{asked_plainly, asks, created, revoked_plainly};
 use results::numbers::{answer_number, outcome_number, refused, tell_listed};
 use table::holding::holds_table;
-use table::{Listed, acting, listing, reading};
+use table::{acting, listing, reading};
 use walk::querying::query;
 
 pub mod arriving;
@@ -56,11 +56,8 @@ pub extern "C" fn permissions_fresh(mem: &mut [u8]) -> i32
 pub extern "C" fn permissions_insert(mem: &mut [u8], kind: u32, path: &[u8], cwd: &[u8]) -> i32
     ensures { ExportedSent (Inserts Plain (alone mem.old) kind «path».now cwd.now (alone mem.new)) 0 result }
 {
-    let mut number: u64 = 0;
-    let mut words = [0u32; 1];
-    let sent = changing::insert(mem, Link::Plain, &mut number, &mut words, kind, path, cwd);
-    let outcome = sent.outcome;
-    outcome_number(outcome)
+    let sent = changing::insert(mem, Link::Plain, &mut 0, &mut [], kind, path, cwd);
+    outcome_number(sent)
 }
 
 // Sets the switches, all five together.
@@ -68,11 +65,8 @@ pub extern "C" fn permissions_insert(mem: &mut [u8], kind: u32, path: &[u8], cwd
 pub extern "C" fn permissions_switches(mem: &mut [u8], switches: u32) -> i32
     ensures { ExportedSent (SetsSwitches Plain (alone mem.old) switches (alone mem.new)) 0 result }
 {
-    let mut number: u64 = 0;
-    let mut words = [0u32; 1];
-    let sent = changing::set_switches(mem, Link::Plain, &mut number, &mut words, switches);
-    let outcome = sent.outcome;
-    outcome_number(outcome)
+    let sent = changing::set_switches(mem, Link::Plain, &mut 0, &mut [], switches);
+    outcome_number(sent)
 }
 
 // ---- query
@@ -285,22 +279,19 @@ pub extern "C" fn permissions_child(
 ) -> i32
     ensures { ExportedChild (CreatesChild Plain (alone parent.old) child.old code (item_list bytes.now ends.now responses.now) cwd.now (alone parent.new) child.new) told.new 0 result }
 {
-    let mut number: u64 = 0;
-    let mut words = [0u32; 1];
-    let mut count: usize = 0;
     created(
         parent,
         Link::Plain,
-        &mut number,
+        &mut 0,
         child,
-        &mut words,
+        &mut [],
         code,
         bytes,
         ends,
         responses,
         cwd,
         told,
-        &mut count,
+        &mut 0,
     )
 }
 
@@ -311,10 +302,11 @@ pub extern "C" fn permissions_child(
 pub extern "C" fn permissions_used(mem: &[u8]) -> i32
     ensures { ExportedUsed mem.now result }
 {
-    if !holds_table(mem) {
-        return refused(Refusal::NoTable);
+    if holds_table(mem) {
+        listing::used(mem) as i32
+    } else {
+        refused(Refusal::NoTable)
     }
-    listing::used(mem) as i32
 }
 
 // How many entries a table has, its switches and its marks.
@@ -334,8 +326,8 @@ pub extern "C" fn permissions_head(
         return refused(Refusal::NoTable);
     }
     *count = listing::count(mem) as u32;
-    *switches = reading::switches(mem) as u32;
-    *marks = reading::marks(mem) as u32;
+    *switches = u32::from(reading::switches(mem));
+    *marks = u32::from(reading::marks(mem));
     0
 }
 
@@ -351,7 +343,7 @@ pub extern "C" fn permissions_entry(
     ensures { ExportedEntry mem.now place kind.new at.new size.new result }
 {
     if !holds_table(mem) {
-        tell_listed(Listed::Nothing, kind, at, size);
+        tell_listed(None, kind, at, size);
         return refused(Refusal::NoTable);
     }
     tell_listed(listing::entry_at(mem, place as usize), kind, at, size)

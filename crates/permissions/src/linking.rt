@@ -46,9 +46,8 @@ pub extern "C" fn permissions_linked_insert(
     ensures { ExportedSent (Inserts (Linked run) (lent mem.old number.old words.old) kind «path».now cwd.now (lent mem.new number.new words.new)) count.new result }
 {
     let sent = changing::insert(mem, Link::Linked(run), number, words, kind, path, cwd);
-    *count = sent.words;
-    let outcome = sent.outcome;
-    outcome_number(outcome)
+    *count = sent.unwrap_or(0);
+    outcome_number(sent)
 }
 
 // Sets the switches, all five together, and records it.
@@ -64,9 +63,8 @@ pub extern "C" fn permissions_linked_switches(
     ensures { ExportedSent (SetsSwitches (Linked run) (lent mem.old number.old words.old) switches (lent mem.new number.new words.new)) count.new result }
 {
     let sent = changing::set_switches(mem, Link::Linked(run), number, words, switches);
-    *count = sent.words;
-    let outcome = sent.outcome;
-    outcome_number(outcome)
+    *count = sent.unwrap_or(0);
+    outcome_number(sent)
 }
 
 // ---- check and request
@@ -303,6 +301,5 @@ pub extern "C" fn permissions_linked_image(
 {
     let sent = imaging::write_image(mem, run, number, words);
     *count = sent.words;
-    let outcome = sent.outcome;
-    outcome_number(outcome)
+    outcome_number(sent.outcome)
 }

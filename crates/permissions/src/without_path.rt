@@ -2,7 +2,7 @@
 ghost use Rattle.deciding.specs.declared.Call.TheVariants.{Check, Request};
 ghost use Rattle.results.specs.Exports.{ExportedUnit, ExportedUnitRevoke};
 
-use results::numbers::{answer_number, asked_number};
+use results::numbers::{answer_number, tell_decided};
 
 // Checks. Whether the operator was asked goes to `told`.
 #[unsafe(no_mangle)]
@@ -14,10 +14,7 @@ pub extern "C" fn permissions_unit_check(
 ) -> i32
     ensures { ExportedUnit Check state.old prompt response state.new told.new result }
 {
-    let asked = unit::check(state, prompt != 0, response);
-    *told = asked_number(asked.asked);
-    let answer = asked.answer;
-    answer_number(answer)
+    tell_decided(unit::check(state, prompt != 0, response), told)
 }
 
 // Requests, whatever the setting.
@@ -30,10 +27,7 @@ pub extern "C" fn permissions_unit_request(
 ) -> i32
     ensures { ExportedUnit Request state.old prompt response state.new told.new result }
 {
-    let asked = unit::request(state, prompt != 0, response);
-    *told = asked_number(asked.asked);
-    let answer = asked.answer;
-    answer_number(answer)
+    tell_decided(unit::request(state, prompt != 0, response), told)
 }
 
 // Revokes.

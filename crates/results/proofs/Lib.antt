@@ -1,3 +1,2 @@
-pub mod NumberLaws
 pub mod ExportLaws
 pub mod PlainLaws

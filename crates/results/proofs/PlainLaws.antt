@@ -1,11 +1,11 @@
--- A plain export lends a number and a word of its own: what it promises is about memory alone, and no word holds a record.
+-- A plain export lends a number of its own and no words: what it promises is about memory alone, and no word holds a record.
 use Prim.Native.Nat.{ℕ}
+use Rattle.refusals.specs.Refusals.{Result}
 use mathlib.Core.Path.{◌≡◌, sym}
 use mathlib.Core.List.{List}
 use lib.IntN.{ℤ}
 use Rattle.table.specs.Acts.{Act}
 use Rattle.link.specs.declared.Link.TheVariants.{Plain}
-use Rattle.link.specs.declared.Sent.{Sent}
 use Rattle.link.specs.Sending.{changes_of, Lent, alone, Sends}
 use Rattle.records.specs.Records.{all_words}
 use Rattle.deciding.specs.declared.Call.{Call}
@@ -22,11 +22,11 @@ no_words : {acts : List Act} {l l' : Lent} {k : ℕ} → Sends Plain acts l l' k
 unfolding changes_of all_words
 no_words S = sym S.count
 
-pub switches-plainly : (l : Lent) (v : ℕ) {l' : Lent} {s : Sent} {r : ℤ} → SetsSwitches Plain l v l' s → r ≡ outcome_number s.outcome
+pub switches-plainly : (l : Lent) (v : ℕ) {l' : Lent} {s : Result ℕ} {r : ℤ} → SetsSwitches Plain l v l' s → r ≡ outcome_number s
     → ExportedSent (SetsSwitches Plain (alone l.memory) v (alone l'.memory)) 0 r
 switches-plainly l v S e = record { answered = _; promise = switches-alone l v S; number = e; words = no_words S.sends }
 
-pub insert-plainly : (l : Lent) (kind : ℕ) (p cwd : List ℕ) {l' : Lent} {s : Sent} {r : ℤ} → Inserts Plain l kind p cwd l' s → r ≡ outcome_number s.outcome
+pub insert-plainly : (l : Lent) (kind : ℕ) (p cwd : List ℕ) {l' : Lent} {s : Result ℕ} {r : ℤ} → Inserts Plain l kind p cwd l' s → r ≡ outcome_number s
     → ExportedSent (Inserts Plain (alone l.memory) kind p cwd (alone l'.memory)) 0 r
 insert-plainly l kind p cwd I e = record { answered = _; promise = insert-alone l kind p cwd I; number = e; words = no_words I.sends }
 

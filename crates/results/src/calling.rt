@@ -6,7 +6,7 @@ ghost use Rattle.calls.specs.Calls.{about, Asks, Revokes};
 ghost use Rattle.child.specs.Calls.{CreatesChild};
 ghost use Rattle.results.specs.Exports.{ExportedAsk, ExportedQuestion, ExportedRevoke, ExportedChild};
 
-use crate::numbers::{answer_number, asked_number, outcome_number, question_number, question_size};
+use crate::numbers::{outcome_number, question_number, question_size, refused};
 use calls::asking::ask;
 use calls::revoking::revoke;
 use child::creating::create_child_permissions;
@@ -33,17 +33,25 @@ pub fn asked(
 ) -> i32
     ensures { ExportedAsk (Asks call link (lent mem.old number.old words.old) space.old (about d «path».now cwd.now) response (lent mem.new number.new words.new) space.new) told.new size.new count.new result }
 {
-    let asked = ask(
+    match ask(
         mem, link, number, words, call, d, path, cwd, response, space,
-    );
-    *told = asked_number(asked.asked);
-    *size = asked.text;
-    *count = asked.words;
-    let answer = asked.answer;
-    answer_number(answer)
+    ) {
+        Ok(asked) => {
+            *told = u32::from(asked.asked);
+            *size = asked.text;
+            *count = asked.words;
+            i32::from(u8::from(asked.state))
+        }
+        Err(cause) => {
+            *told = 0;
+            *size = 0;
+            *count = 0;
+            refused(cause)
+        }
+    }
 }
 
-// The same plainly: a number and a word of its own are lent for it.
+// The same plainly: it looks at no number and no words.
 pub fn asked_plainly(
     mem: &mut [u8],
     call: Call,
@@ -57,14 +65,11 @@ pub fn asked_plainly(
 ) -> i32
     ensures { ExportedAsk (Asks call Plain (alone mem.old) space.old (about d «path».now cwd.now) response (alone mem.new) space.new) told.new size.new 0 result }
 {
-    let mut number: u64 = 0;
-    let mut words = [0u32; 1];
-    let mut count: usize = 0;
     asked(
         mem,
         Link::Plain,
-        &mut number,
-        &mut words,
+        &mut 0,
+        &mut [],
         call,
         d,
         path,
@@ -73,7 +78,7 @@ pub fn asked_plainly(
         space,
         told,
         size,
-        &mut count,
+        &mut 0,
     )
 }
 
@@ -107,28 +112,31 @@ pub fn revoked(
 ) -> i32
     ensures { ExportedRevoke (Revokes link (lent mem.old number.old words.old) (about d «path».now cwd.now) (lent mem.new number.new words.new)) count.new result }
 {
-    let revoked = revoke(mem, link, number, words, d, path, cwd);
-    *count = revoked.words;
-    let answer = revoked.answer;
-    answer_number(answer)
+    match revoke(mem, link, number, words, d, path, cwd) {
+        Ok(revoked) => {
+            *count = revoked.words;
+            i32::from(u8::from(revoked.state))
+        }
+        Err(cause) => {
+            *count = 0;
+            refused(cause)
+        }
+    }
 }
 
 // The same plainly.
 pub fn revoked_plainly(mem: &mut [u8], d: Descriptor, path: &[u8], cwd: &[u8]) -> i32
     ensures { ExportedRevoke (Revokes Plain (alone mem.old) (about d «path».now cwd.now) (alone mem.new)) 0 result }
 {
-    let mut number: u64 = 0;
-    let mut words = [0u32; 1];
-    let mut count: usize = 0;
     revoked(
         mem,
         Link::Plain,
-        &mut number,
-        &mut words,
+        &mut 0,
+        &mut [],
         d,
         path,
         cwd,
-        &mut count,
+        &mut 0,
     )
 }
 
@@ -152,9 +160,7 @@ pub fn created(
     let sent = create_child_permissions(
         parent, link, number, child, words, code, bytes, ends, responses, cwd,
     );
-    let made = sent.made;
-    *told = made.asked as u32;
+    *told = sent.made.asked as u32;
     *count = sent.words;
-    let outcome = made.outcome;
-    outcome_number(outcome)
+    outcome_number(sent.made.outcome)
 }

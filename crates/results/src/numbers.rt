@@ -8,131 +8,90 @@ ghost use Rattle.results.specs.Numbers.{
   question_number,
   question_size,
   arrival_number,
-  relation_number,
   compared_number,
   compared_common,
 };
+ghost use Rattle.unit.specs.Calls.{answer_in, asked_in};
 ghost use Rattle.results.specs.Exports.{TellsListed};
 
-use deciding::Question;
-use paths::{Compared, Relation};
-use refusals::{Refusal, refusal_number};
+use paths::Comparison;
+use refusals::Refusal;
 use standby::Arrival;
-use table::{Listed, Outcome, listing};
-use walk::Answer;
-use walk::walking::state_number;
+use table::Listed;
+use unit::Decided;
+use walk::PermissionState;
 
 // A refusal as a result.
 pub fn refused(cause: Refusal) -> i32
     ensures { result ≡ refused_number cause }
 {
-    -(refusal_number(cause) as i32)
+    -i32::from(u8::from(cause))
 }
 
-pub fn outcome_number(outcome: Outcome) -> i32
+// 0, whatever is handed on, or a refusal.
+pub fn outcome_number<A: Drop>(outcome: Result<A, Refusal>) -> i32
     ensures { result ≡ outcome_number outcome }
 {
-    match outcome {
-        Outcome::Done => 0,
-        Outcome::Refused(cause) => refused(cause),
-    }
+    outcome.map_or_else(refused, |_| 0)
 }
 
-pub fn answer_number(answer: Answer) -> i32
+pub fn answer_number(answer: Result<PermissionState, Refusal>) -> i32
     ensures { result ≡ answer_number answer }
 {
-    match answer {
-        Answer::State(state) => state_number(state) as i32,
-        Answer::Refused(cause) => refused(cause),
-    }
+    answer.map_or_else(refused, |state| i32::from(u8::from(state)))
 }
 
-pub fn asked_number(asked: bool) -> u32
-    ensures { result ≡ asked_number asked }
-{
-    if asked {
-        return 1;
-    }
-    0
-}
-
-pub fn question_number(question: Question) -> i32
+pub fn question_number(question: Result<Option<usize>, Refusal>) -> i32
     ensures { result ≡ question_number question }
 {
-    match question {
-        Question::Asks(_) => 1,
-        Question::AsksNothing => 0,
-        Question::Refused(cause) => refused(cause),
-    }
+    question.map_or_else(refused, |asks| i32::from(asks.is_some()))
 }
 
-pub fn question_size(question: Question) -> usize
+pub fn question_size(question: Result<Option<usize>, Refusal>) -> usize
     ensures { result ≡ question_size question }
 {
-    match question {
-        Question::Asks(n) => n,
-        Question::AsksNothing => 0,
-        Question::Refused(_) => 0,
-    }
+    if let Ok(Some(n)) = question { n } else { 0 }
 }
 
-pub fn arrival_number(answer: Arrival) -> i32
+pub fn arrival_number(answer: Result<Arrival, Refusal>) -> i32
     ensures { result ≡ arrival_number answer }
 {
-    match answer {
-        Arrival::Applied => 0,
-        Arrival::Repeat => 1,
-        Arrival::Early => 2,
-        Arrival::Taken => 3,
-        Arrival::Refused(cause) => refused(cause),
-    }
+    answer.map_or_else(refused, |arrival| arrival as i32)
 }
 
-fn relation_number(relation: Relation) -> u8
-    ensures { result ≡ relation_number relation }
-{
-    match relation {
-        Relation::Equal => 0,
-        Relation::Prefix => 1,
-        Relation::Extension => 2,
-        Relation::Less => 3,
-        Relation::Greater => 4,
-    }
-}
-
-pub fn compared_number(compared: Compared) -> i32
+pub fn compared_number(compared: Result<Comparison, Refusal>) -> i32
     ensures { result ≡ compared_number compared }
 {
-    match compared {
-        Compared::Comparison(found) => {
-            let relation = found.relation;
-            relation_number(relation) as i32
-        }
-        Compared::Refused(cause) => refused(cause),
-    }
+    compared.map_or_else(refused, |found| found.relation as i32)
 }
 
-pub fn compared_common(compared: Compared) -> usize
+pub fn compared_common(compared: Result<Comparison, Refusal>) -> usize
     ensures { result ≡ compared_common compared }
 {
-    match compared {
-        Compared::Comparison(found) => found.common,
-        Compared::Refused(_) => 0,
-    }
+    compared.map_or(0, |found| found.common)
+}
+
+// Writes whether the operator was asked about a permission without a path, and says its state.
+pub fn tell_decided(decided: Result<Decided, Refusal>, told: &mut u32) -> i32
+    ensures number { result ≡ answer_number (answer_in decided) }
+    ensures asked { told.new ≡ asked_number (asked_in decided) }
+{
+    *told = u32::from(decided.is_ok_and(|made| made.asked));
+    answer_number(decided.map(|made| made.state))
 }
 
 // Writes what stands at a place of a list, and says whether an entry is there.
-pub fn tell_listed(listed: Listed, kind: &mut u32, at: &mut usize, size: &mut usize) -> i32
+pub fn tell_listed(listed: Option<Listed>, kind: &mut u32, at: &mut usize, size: &mut usize) -> i32
     ensures { TellsListed listed kind.new at.new size.new result }
 {
     match listed {
-        Listed::Entry(of, start, len) => {
-            *kind = listing::kind_number(of) as u32;
-            *at = start;
-            *size = len;
+        Some(entry) => {
+            *kind = u32::from(u8::from(entry.kind));
+            *at = entry.at;
+            *size = entry.size;
             1
         }
-        Listed::Nothing => {
+        None => {
             *kind = 0;
             *at = 0;
             *size = 0;

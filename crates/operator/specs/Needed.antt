@@ -1,10 +1,10 @@
 -- Each premise of the claim is needed: where one is dropped, a single call opens a path. Scope, "The operator against the script".
 use Rattle.std.specs.Prelude.{ℕ, List, true, false, not}
+use Rattle.refusals.specs.Refusals.{Result}
 use Rattle.paths.specs.Relations.{is_prefix}
 use Rattle.paths.specs.Giving.{no_path, path}
 use Rattle.table.specs.Entries.{same_path}
 use Rattle.link.specs.declared.Link.TheVariants.{Plain}
-use Rattle.link.specs.declared.Sent.{Sent}
 use Rattle.link.specs.Sending.{alone}
 use Rattle.deciding.specs.declared.PromptResponse.TheVariants.{Deny, Allow, AllowAll}
 use Rattle.calls.specs.Changes.{SetsSwitches, Inserts}
@@ -38,12 +38,12 @@ allows_all p q AllowAll = true
 -- inserts an entry directly
 pub data OrInserts (p m m' : List ℕ) : Type 0 where
   script : Step promised (says_no p) m m' → OrInserts p m m'
-  inserts : (kind : ℕ) (given cwd : List ℕ) (r : Sent) → Inserts Plain (alone m) kind given cwd (alone m') r → OrInserts p m m'
+  inserts : (kind : ℕ) (given cwd : List ℕ) (r : Result ℕ) → Inserts Plain (alone m) kind given cwd (alone m') r → OrInserts p m m'
 
 -- sets switches
 pub data OrSwitches (p m m' : List ℕ) : Type 0 where
   script : Step promised (says_no p) m m' → OrSwitches p m m'
-  switches : (v : ℕ) (r : Sent) → SetsSwitches Plain (alone m) v (alone m') r → OrSwitches p m m'
+  switches : (v : ℕ) (r : Result ℕ) → SetsSwitches Plain (alone m) v (alone m') r → OrSwitches p m m'
 
 -- ---- what `proofs/Needed.antt` shows
 

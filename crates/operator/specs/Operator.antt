@@ -2,7 +2,8 @@
 --
 -- A script makes any calls, from any memory that holds a table: its list in any order, with or without duplicates, whatever switches are set. Each step is a
 -- call's own promise, the one that its `ensures` cites, refused or not. `OperatorAgainstScript` says what an operator keeps shut who says no, and that a yes opens.
-use Rattle.std.specs.Prelude.{ℕ, ◌≡◌, List, Bool, true, false, not, Ok}
+use Rattle.std.specs.Prelude.{ℕ, ◌≡◌, List, Bool, true, false, not, Some, Ok}
+use Rattle.refusals.specs.Refusals.{Result}
 use Rattle.paths.specs.declared.Descriptor.TheVariants.{Path}
 use Rattle.paths.specs.Resolving.{resolve}
 use Rattle.paths.specs.Relations.{is_prefix}
@@ -21,18 +22,15 @@ use Rattle.walk.specs.declared.PermissionState.TheVariants.{
   Ignored,
 }
 use Rattle.walk.specs.declared.AllowPartial.TheVariants.{TreatAsPartialGranted}
-use Rattle.walk.specs.declared.Answer.{Answer}
-use Rattle.walk.specs.declared.Answer.TheVariants.{State}
 use Rattle.walk.specs.Walk.{mode_number, query_desc}
-use Rattle.walk.specs.Calls.{query_answer}
+use Rattle.walk.specs.Calls.{query_call}
 use Rattle.deciding.specs.declared.PromptResponse.{PromptResponse}
 use Rattle.deciding.specs.declared.PromptResponse.TheVariants.{Deny, Allow, AllowAll}
-use Rattle.deciding.specs.declared.ResponseRead.TheVariants.{Response}
 use Rattle.deciding.specs.declared.Call.{Call}
 use Rattle.deciding.specs.Decisions.{response_of}
 use Rattle.calls.specs.declared.Asked.{Asked}
 use Rattle.calls.specs.declared.Revoked.{Revoked}
-use Rattle.calls.specs.Calls.{About, about, Asks, Revokes}
+use Rattle.calls.specs.Calls.{About, about, told, Asks, Revokes}
 
 -- ---- the path
 
@@ -75,13 +73,13 @@ says_no p q AllowAll = false
 -- A call was handed the number `response` for the operator's answer. Where it asked about q, the answer that the number names is one that the operator may give;
 -- where it did not ask, as a refused call never does, nobody gave an answer, and the number may be any.
 abbrev pub Answered : Operator → Bool → Query → ℕ → Type 0
-Answered operator asked q response = asked ≡ true → (answer : PromptResponse) → response_of response ≡ Response answer → operator q answer ≡ true
+Answered operator asked q response = asked ≡ true → (answer : PromptResponse) → response_of response ≡ Some answer → operator q answer ≡ true
 
 -- ---- what the calls promise: check and request, and revoke, plain or linked
 
 pub record Promises : Type 1 where
-  pub asks : (call : Call) (link : Link) (l : Lent) (s : List ℕ) (a : About) (response : ℕ) (l' : Lent) (s' : List ℕ) (r : Asked) → Type 0
-  pub revokes : (link : Link) (l : Lent) (a : About) (l' : Lent) (r : Revoked) → Type 0
+  pub asks : (call : Call) (link : Link) (l : Lent) (s : List ℕ) (a : About) (response : ℕ) (l' : Lent) (s' : List ℕ) (r : Result Asked) → Type 0
+  pub revokes : (link : Link) (l : Lent) (a : About) (l' : Lent) (r : Result Revoked) → Type 0
 
 -- the calls' own
 abbrev pub promised : Promises
@@ -93,15 +91,15 @@ promised = record { asks = Asks; revokes = Revokes }
 -- A linked call is handed any run number, after any number n and with any record space w.
 pub data Step (P : Promises) (operator : Operator) (m m' : List ℕ) : Type 0 where
   -- a query is lent the memory for reading alone
-  queries : (mode : ℕ) (a : About) (r : Answer) → r ≡ query_answer m mode a.descriptor a.given a.cwd
+  queries : (mode : ℕ) (a : About) (r : Result PermissionState) → r ≡ query_call m mode a.descriptor a.given a.cwd
       → m' ≡ m
       → Step P operator m m'
   -- check and request
-  asks : (call : Call) (link : Link) (n : ℕ) (w s : List ℕ) (a : About) (response n' : ℕ) (w' s' : List ℕ) (r : Asked)
+  asks : (call : Call) (link : Link) (n : ℕ) (w s : List ℕ) (a : About) (response n' : ℕ) (w' s' : List ℕ) (r : Result Asked)
       → P.asks call link (lent m n w) s a response (lent m' n' w') s' r
-      → Answered operator r.asked (query_of a.descriptor (resolve a.given a.cwd)) response
+      → Answered operator (told r) (query_of a.descriptor (resolve a.given a.cwd)) response
       → Step P operator m m'
-  revokes : (link : Link) (n : ℕ) (w : List ℕ) (a : About) (n' : ℕ) (w' : List ℕ) (r : Revoked)
+  revokes : (link : Link) (n : ℕ) (w : List ℕ) (a : About) (n' : ℕ) (w' : List ℕ) (r : Result Revoked)
       → P.revokes link (lent m n w) a (lent m' n' w') r
       → Step P operator m m'
 
@@ -116,13 +114,13 @@ pub data Script (Next : List ℕ → List ℕ → Type 0) (m : List ℕ) : List 
 pub record IsYes (p given cwd : List ℕ) (asked : Bool) (response : ℕ) : Type 0 where
   pub for : resolve given cwd ≡ p
   pub told : asked ≡ true
-  pub answer : response_of response ≡ Response Allow
+  pub answer : response_of response ≡ Some Allow
 
 -- a check or request for p, plain or linked, that got a yes: memory m becomes m'
 pub data Allowed (P : Promises) (p m m' : List ℕ) : Type 0 where
-  allowed : (call : Call) (link : Link) (n : ℕ) (w s given cwd : List ℕ) (response n' : ℕ) (w' s' : List ℕ) (r : Asked)
+  allowed : (call : Call) (link : Link) (n : ℕ) (w s given cwd : List ℕ) (response n' : ℕ) (w' s' : List ℕ) (r : Result Asked)
       → P.asks call link (lent m n w) s (about Path given cwd) response (lent m' n' w') s' r
-      → IsYes p given cwd r.asked response
+      → IsYes p given cwd (told r) response
       → Allowed P p m m'
 
 -- ---- the claim
@@ -138,7 +136,7 @@ pub record Claim (P : Promises) : Type 0 where
   pub yes : (p m m' : List ℕ) → Allowed P p m m' → Open p m'
   -- `state_of` is what the call query answers in mode partial, for every path as given that resolves to p
   pub seen : (p m given cwd : List ℕ) → holds m ≡ true → resolved given cwd ≡ Ok p
-      → query_answer m (mode_number TreatAsPartialGranted) Path given cwd ≡ State (state_of (table_of m) p)
+      → query_call m (mode_number TreatAsPartialGranted) Path given cwd ≡ Ok (state_of (table_of m) p)
 
 abbrev pub OperatorAgainstScript : Type 0
 OperatorAgainstScript = Claim promised

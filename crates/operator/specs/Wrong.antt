@@ -23,7 +23,6 @@ use Rattle.walk.specs.declared.PermissionState.TheVariants.{
 }
 use Rattle.walk.specs.declared.AllowPartial.TheVariants.{TreatAsPartialGranted}
 use Rattle.walk.specs.Walk.{query_desc}
-use Rattle.walk.specs.Calls.{answer_of}
 use Rattle.deciding.specs.declared.PromptResponse.{PromptResponse}
 use Rattle.deciding.specs.declared.PromptResponse.TheVariants.{Deny, Allow, AllowAll}
 use Rattle.deciding.specs.declared.Call.{Call}
@@ -32,7 +31,7 @@ use Rattle.deciding.specs.Decisions.{response_of, known_response, grant_act, ans
 use Rattle.deciding.specs.Questions.{text_space}
 use Rattle.calls.specs.declared.Asked.{Asked}
 use Rattle.calls.specs.declared.Revoked.{Revoked}
-use Rattle.calls.specs.Calls.{carried_out, decided_acts, About, Answers, Asks, revoke_call, Revokes}
+use Rattle.calls.specs.Calls.{carried_out, decided_acts, About, words_in, Answers, Asks, revoked_answer, revoked_words, revoke_call, Revokes}
 use Rattle.operator.specs.Operator.{Promises, Claim}
 
 -- ---- check and request
@@ -53,10 +52,10 @@ ask_call_by deciding call link l s a response =
     carried_out numbers t (deciding call t q known)))))))
 
 -- `Asks` is the one with `decide`
-pub record AsksBy (deciding : Deciding) (call : Call) (link : Link) (l : Lent) (s : List ℕ) (a : About) (response : ℕ) (l' : Lent) (s' : List ℕ) (r : Asked)
+pub record AsksBy (deciding : Deciding) (call : Call) (link : Link) (l : Lent) (s : List ℕ) (a : About) (response : ℕ) (l' : Lent) (s' : List ℕ) (r : Result Asked)
     : Type 0 where
   pub answers : Answers (ask_call_by deciding call link l s a response) a s s' r
-  pub sends : Sends link (decided_acts (ask_call_by deciding call link l s a response)) l l' r.words
+  pub sends : Sends link (decided_acts (ask_call_by deciding call link l s a response)) l l' (words_in r)
 
 -- Deny inserts G
 unfoldable pub deny_grants : Deciding
@@ -121,10 +120,10 @@ revoke_call_by by link l a =
     unless (carry_cause numbers t (Some (revoke_act q))) (by t q)))))
 
 -- `Revokes` is the one with `revokes`; what is recorded is the act of a revoke
-pub record RevokesBy (revoking : Revoking) (link : Link) (l : Lent) (a : About) (l' : Lent) (r : Revoked) : Type 0 where
-  pub answer : r.answer ≡ answer_of (revoke_call_by (λ t q. query_desc (revoking t q) TreatAsPartialGranted q) link l a)
+pub record RevokesBy (revoking : Revoking) (link : Link) (l : Lent) (a : About) (l' : Lent) (r : Result Revoked) : Type 0 where
+  pub answer : revoked_answer r ≡ revoke_call_by (λ t q. query_desc (revoking t q) TreatAsPartialGranted q) link l a
   pub memory : l'.memory ≡ put_in (revoke_call_by revoking link l a) l.memory
-  pub records : Records link (decided_acts (revoke_call link l a)) l.number l.words 0 l'.number l'.words r.words
+  pub records : Records link (decided_acts (revoke_call link l a)) l.number l.words 0 l'.number l'.words (revoked_words r)
 
 abbrev pub revokes : Revoking
 revokes t q = apply_act t (revoke_act q)

@@ -4,37 +4,36 @@ use Prim.Native.Nat.{ℕ}
 use mathlib.Core.Path.{◌≡◌, refl, sym, ap, ◌∙◌}
 use mathlib.Core.List.{List, [], ◌∷◌, ◌++◌, append-nil, append_assoc}
 use mathlib.Core.Bool.{Bool, true, false, ◌&&◌, ◌||◌, cond, or-false, or_assoc, true≢false, false≢true}
-use lib.IntN.{ℤ}
 use lib.ListN.{length}
 use lib.Dec.{leb}
 use Rattle.paths.specs.Resolving.{max_path, is_resolved}
-use Rattle.paths.specs.Giving.{Query, no_path, path, is_path}
-use Rattle.paths.specs.Relations.{is_prefix}
+use Rattle.paths.specs.Giving.{Query, path, is_path}
+use Rattle.paths.specs.declared.Comparison.{Comparison}
+use Rattle.paths.specs.Relations.{is_prefix, comparison}
 use Rattle.paths.proofs.ComponentLaws.{and_right}
-use Rattle.paths.proofs.RelationLaws.{Said}
+use Rattle.paths.proofs.RelationLaws.{says_prefix, turned, compared-said}
 use Rattle.table.specs.declared.Kind.{Kind}
 use Rattle.table.specs.declared.Kind.TheVariants.{G, D, P, I}
 use Rattle.table.specs.Entries.{Entry}
-use Rattle.table.specs.Tables.{Table, has, any, is_entry, has_flag_denied, has_flag_ignored}
+use Rattle.table.specs.Tables.{Table, any, is_entry}
 use Rattle.table.specs.declared.Cursor.{Cursor}
 use Rattle.table.specs.Memory.{table_of}
 use Rattle.table.specs.Reading.{entries_from, is_at_entry, entry_in, first_entry, next_entry, Reads}
 use Rattle.table.proofs.ReadingLaws.{first-from, from-entry, from_end, entry_read}
 use Rattle.walk.specs.declared.AllowPartial.{AllowPartial}
 use Rattle.walk.specs.declared.AllowPartial.TheVariants.{TreatAsDenied, TreatAsPartialGranted, TreatAsGranted}
-use Rattle.walk.specs.declared.PermissionState.{PermissionState}
 use Rattle.walk.specs.declared.Met.{Met}
-use Rattle.walk.specs.declared.FirstMatch.TheVariants.{Nothing, Match}
 use Rattle.walk.specs.declared.Seen.{Seen}
-use Rattle.walk.specs.Walk.{matches_kind, matches, first_match, is_flag, is_flag_below, is_partial, allowed, decided_by, without_match, by_match, query_desc}
-use Rattle.walk.specs.Seeing.{Meets, matches_by, partial_by, kind_of_match, Sees, first_of, settles, is_settled, Walks, Follows, Decides}
+use Rattle.walk.specs.Walk.{matches_kind, matches, first_match, is_flag, is_flag_below, is_partial, allowed, decided_by, by_match, query_desc}
+use Rattle.walk.specs.Seeing.{Meets, matches_by, partial_by, kind_of_match, Sees, first_of, settles, is_settled, Walks, Decides}
 use Rattle.walk.proofs.WalkLaws.{neither, allowed-granted}
 
 -- ---- one comparison answers both questions
 
 -- what a comparison says of the two paths
-pub meets-said : {p q : List ℕ} {a b : Bool} {o : ℤ} → Said p q a b o → Meets p q (record { above = a; below = b })
-meets-said s = record { above = sym s.prefix; below = sym s.extension }
+pub meets-compared : {p q : List ℕ} {r : Comparison} {a b : Bool} → r ≡ comparison p q → a ≡ says_prefix r.relation → b ≡ says_prefix (turned r.relation)
+    → Meets p q (record { above = a; below = b })
+meets-compared e f g = let s = compared-said e refl in record { above = f ∙ sym s.prefix; below = g ∙ sym s.extension }
 
 pub meets_at : {p p' q : List ℕ} {met : Met} → Meets p q met → p ≡ p' → Meets p' q met
 meets_at M e = record { above = rw (← e) M.above; below = rw (← e) M.below }
@@ -141,7 +140,7 @@ pub record Walking (m q : List ℕ) (c : Cursor) (seen : Seen) : Type 0 where
   pub whole : (table_of m).entries ≡ read ++ entries_from m c
   pub sees : Sees q read seen
 
-pub walking_start : (m q : List ℕ) (seen : Seen) → seen.first ≡ Nothing → seen.partial ≡ false → Walking m q (first_entry m) seen
+pub walking_start : (m q : List ℕ) (seen : Seen) → seen.first ≡ None → seen.partial ≡ false → Walking m q (first_entry m) seen
 unfolding kind_of_match first_match any
 walking_start m q seen f p = record { read = []; whole = sym (first-from m); sees = record { first = f; partial = p } }
 
@@ -214,36 +213,3 @@ module _ (t : Table) (mode : AllowPartial) (q : List ℕ) {s : Seen} (W : Walks 
         same-state (is_settled s.first mode s.partial) refl
         ∙ ap (λ (es : List Entry). by_match t mode (path q) (first_match q es) (any (is_flag_below q) es)) (sym W.whole);
   }
-
--- with no path, from the marks
-module _ (t : Table) (mode : AllowPartial) {s : Seen} (f : s.first ≡ Nothing) where
-  marks-decide : s.partial ≡ is_partial t no_path → Decides t mode no_path s
-  unfolding kind_of_match by_match query_desc
-  marks-decide p = record { found = None; first = f; state = ap (without_match t mode no_path) p }
-
-  -- mark 1 is set
-  pub flag-denied-decides : {r : Bool} → s.partial ≡ r → r ≡ has t.marks has_flag_denied → r ≡ true → Decides t mode no_path s
-  unfolding is_partial
-  flag-denied-decides p a h = marks-decide (p ∙ h ∙ rw (← a, h))
-
-  -- it is not, and mark 4 decides
-  pub flag-ignored-decides : {r : Bool} → r ≡ has t.marks has_flag_denied → r ≡ false → s.partial ≡ has t.marks has_flag_ignored → Decides t mode no_path s
-  unfolding is_partial
-  flag-ignored-decides a h p = marks-decide (p ∙ rw (← a, h))
-
--- what was seen stands for the match that it is of
-module _ (t : Table) (mode : AllowPartial) (d : Query) (partial : Bool) where
-  pub by-none : (found : Option Entry) → Nothing ≡ kind_of_match found → by_match t mode d found partial ≡ without_match t mode d partial
-  unfolding kind_of_match by_match
-  by-none None e = refl
-  by-none (Some e) x = cc
-
-  pub by_kind : (found : Option Entry) {k : Kind} → Match k ≡ kind_of_match found → by_match t mode d found partial ≡ decided_by k (allowed partial mode)
-  unfolding kind_of_match by_match
-  by_kind None x = cc
-  by_kind (Some e) x = cc
-
--- the state that follows from what decides is the query's
-pub follows-decides : {t : Table} {mode : AllowPartial} {d : Query} {s : Seen} {state : PermissionState} → Follows t mode d s state → Decides t mode d s
-    → state ≡ query_desc t mode d
-follows-decides follows decides = follows.by decides.found decides.first ∙ decides.state

@@ -1,5 +1,5 @@
--- Laws of the walk over a table: modes and their numbers, and what a table grants that allows all.
-use Rattle.std.specs.Prelude.{Some}
+-- Laws of the walk over a table: states, modes and their numbers, and what a table grants that allows all.
+use Rattle.std.specs.Prelude.{None, Some}
 use Prim.Native.Nat.{ℕ, zero, suc, ◌<◌}
 use mathlib.Core.Path.{◌≡◌, refl, sym, ◌∙◌}
 use mathlib.Core.List.{List, [], ◌∷◌}
@@ -7,11 +7,18 @@ use mathlib.Core.Bool.{Bool, true, false, ◌&&◌, ◌||◌, not, and-false, tr
 use native.Mathlib.Omega.{arith}
 use lib.Dec.{eqb}
 use borrow.Author.Tests.{eqb-true, not-true}
-use Rattle.walk.specs.declared.PermissionState.TheVariants.{Granted}
+use Rattle.walk.specs.declared.PermissionState.{PermissionState}
+use Rattle.walk.specs.declared.PermissionState.TheVariants.{
+  Granted,
+  GrantedPartial,
+  Prompt,
+  Denied,
+  DeniedPartial,
+  Ignored,
+}
 use Rattle.walk.specs.declared.AllowPartial.{AllowPartial}
 use Rattle.walk.specs.declared.AllowPartial.TheVariants.{TreatAsDenied, TreatAsPartialGranted, TreatAsGranted}
-use Rattle.walk.specs.declared.ModeRead.TheVariants.{Mode, Unknown}
-use Rattle.walk.specs.Walk.{mode_number, mode_of, matches, first_match, is_flag, is_flag_below, is_partial, allowed, decided_by, is_denied_mode, is_denied, without_match, by_match, query_desc, is_allow_all}
+use Rattle.walk.specs.Walk.{state_number, state_of, mode_number, mode_of, matches, first_match, is_flag, is_flag_below, is_partial, allowed, decided_by, is_denied_mode, is_denied, without_match, by_match, query_desc, is_allow_all}
 use Rattle.paths.specs.Giving.{Query, no_path, path}
 use Rattle.paths.proofs.ComponentLaws.{and_left, and_right, either}
 use Rattle.table.specs.declared.Kind.{Kind}
@@ -20,35 +27,52 @@ use Rattle.table.specs.Entries.{Entry, kind_number}
 use Rattle.table.specs.Tables.{Table, has, granted, flag_denied, flag_ignored, prompt_denied, any, present, marks_of, is_table}
 use Rattle.table.proofs.TableLaws.{valid-parts, marks_by}
 
+-- ---- states
+
+-- each state is the one that its number names
+pub state-numbered : (state : PermissionState) → state_of (state_number state) ≡ Some state
+unfolding state_of
+state-numbered Granted = refl
+state-numbered GrantedPartial = refl
+state-numbered Prompt = refl
+state-numbered Denied = refl
+state-numbered DeniedPartial = refl
+state-numbered Ignored = refl
+
+-- none has a number above 5
+pub state-unknown : (n : ℕ) → 5 < n → state_of n ≡ None
+unfolding state_of
+state-unknown zero h = absurd (omega arith)
+state-unknown (suc zero) h = absurd (omega arith)
+state-unknown (suc (suc zero)) h = absurd (omega arith)
+state-unknown (suc (suc (suc zero))) h = absurd (omega arith)
+state-unknown (suc (suc (suc (suc zero)))) h = absurd (omega arith)
+state-unknown (suc (suc (suc (suc (suc zero))))) h = absurd (omega arith)
+state-unknown (suc (suc (suc (suc (suc (suc n)))))) h = refl
+
 -- ---- modes
 
 -- each mode is the one that its number names
-pub mode-numbered : (mode : AllowPartial) → mode_of (mode_number mode) ≡ Mode mode
+pub mode-numbered : (mode : AllowPartial) → mode_of (mode_number mode) ≡ Some mode
 unfolding mode_of
 mode-numbered TreatAsDenied = refl
 mode-numbered TreatAsPartialGranted = refl
 mode-numbered TreatAsGranted = refl
 
 -- none has a number above 2
-pub mode-unknown : (n : ℕ) → 2 < n → mode_of n ≡ Unknown
+pub mode-unknown : (n : ℕ) → 2 < n → mode_of n ≡ None
 unfolding mode_of
 mode-unknown zero h = absurd (omega arith)
 mode-unknown (suc zero) h = absurd (omega arith)
 mode-unknown (suc (suc zero)) h = absurd (omega arith)
 mode-unknown (suc (suc (suc n))) h = refl
 
--- ---- partial, denied
+-- ---- partial
 
 pub allowed-granted : (b : Bool) → allowed b TreatAsGranted ≡ Granted
 unfolding allowed
 allowed-granted true = refl
 allowed-granted false = refl
-
--- switch 2 denies with a path and with none
-pub denied-flag : (t : Table) (d : Query) → has t.switches flag_denied ≡ true → is_denied t d ≡ true
-unfolding is_denied
-denied-flag t no_path e = rw e
-denied-flag t (path q) e = e
 
 -- ---- a table that allows all
 

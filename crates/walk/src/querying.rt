@@ -10,7 +10,13 @@ use refusals::Refusal;
 use table::holding::holds_table;
 
 // What a path, as given with the working directory, or no path has for an answer in a mode.
-pub fn query(mem: &[u8], mode: u32, d: Descriptor, path: &[u8], cwd: &[u8]) -> Result<PermissionState, Refusal>
+pub fn query(
+    mem: &[u8],
+    mode: u32,
+    d: Descriptor,
+    path: &[u8],
+    cwd: &[u8],
+) -> Result<PermissionState, Refusal>
     ensures { result ≡ query_call mem.now mode d «path».now cwd.now }
 {
     if !holds_table(mem) {

@@ -1,5 +1,5 @@
 // What a query answers, from a table in lent memory. Scope, "The walk". The names are the Rust's where a function is.
-ghost use Rattle.std.specs.Prelude.{◌≡◌, true, ◌&&◌, List, ℕ};
+ghost use Rattle.std.specs.Prelude.{◌≡◌, true, List, ℕ};
 ghost use Rattle.paths.specs.Resolving.{is_resolved};
 ghost use Rattle.paths.specs.Giving.{query_of};
 ghost use Rattle.table.specs.Memory.{table_of, holds};
@@ -12,7 +12,6 @@ ghost use Rattle.walk.specs.Walk.{
   allowed,
   decided_by,
   is_denied,
-  is_denied_mode,
   without_match,
   query_desc,
   is_allow_all,
@@ -58,6 +57,7 @@ impl TryFrom<u32> for PermissionState {
 
     ghost try_from_gives = { λ n r. r ≡ known_state (state_of n) };
 
+    #[tactic(auto, unfolding(crate::specs::Walk::state_of, crate::specs::Walk::known_state))]
     fn try_from(n: u32) -> Result<Self, Refusal> {
         match n {
             0 => Ok(PermissionState::Granted),
@@ -77,6 +77,7 @@ impl TryFrom<u32> for AllowPartial {
 
     ghost try_from_gives = { λ n r. r ≡ known_mode (mode_of n) };
 
+    #[tactic(auto, unfolding(crate::specs::Walk::mode_of, crate::specs::Walk::known_mode))]
     fn try_from(n: u32) -> Result<Self, Refusal> {
         match n {
             0 => Ok(AllowPartial::TreatAsDenied),
@@ -156,7 +157,8 @@ fn settles(kind: Kind, mode: AllowPartial, partial: bool) -> bool
 fn is_settled(seen: Seen, mode: AllowPartial) -> bool
     ensures { result ≡ is_settled seen.first mode seen.partial }
 {
-    seen.first.is_some_and(|kind| settles(kind, mode, seen.partial))
+    seen.first
+        .is_some_and(|kind| settles(kind, mode, seen.partial))
 }
 
 // The entries in list order, each read once, until the state is settled.
@@ -200,6 +202,7 @@ fn see(mem: &[u8], mode: AllowPartial, d: Descriptor, q: &[u8]) -> Seen
 // ---- the state
 
 // The state of what is allowed, by whether it is partial and what the mode makes of that.
+#[tactic(auto, unfolding(crate::specs::Walk::allowed))]
 fn query_allowed_desc(partial: bool, mode: AllowPartial) -> PermissionState
     ensures { result ≡ allowed partial mode }
 {
@@ -211,6 +214,7 @@ fn query_allowed_desc(partial: bool, mode: AllowPartial) -> PermissionState
 }
 
 // What a match of a kind decides.
+#[tactic(auto, unfolding(crate::specs::Walk::decided_by))]
 fn decided_by(kind: Kind, state: PermissionState) -> PermissionState
     ensures { result ≡ decided_by kind state }
 {
@@ -221,14 +225,8 @@ fn decided_by(kind: Kind, state: PermissionState) -> PermissionState
     }
 }
 
-// Whether the mode denies what is asked about because it is partial.
-fn is_denied_partial(partial: bool, mode: AllowPartial) -> bool
-    ensures { result ≡ is_denied_mode mode && partial }
-{
-    mode == AllowPartial::TreatAsDenied && partial
-}
-
 // Whether what no entry decides is denied. With no path, a denial at the prompt counts too, of all or of any path.
+#[tactic(auto, unfolding(crate::specs::Walk::is_denied, paths::specs::Giving::query_of))]
 fn is_denied(mem: &[u8], d: Descriptor) -> bool
     requires { holds mem.now ≡ true }
     ensures { (q : List ℕ) → result ≡ is_denied (table_of mem.now) (query_of d q) }
@@ -243,13 +241,14 @@ fn is_denied(mem: &[u8], d: Descriptor) -> bool
 }
 
 // The state where no entry decides.
+#[tactic(auto, unfolding(crate::specs::Walk::without_match, crate::specs::Walk::is_denied_mode))]
 fn without_match(mem: &[u8], mode: AllowPartial, d: Descriptor, partial: bool) -> PermissionState
     requires { holds mem.now ≡ true }
     ensures { (q : List ℕ) → result ≡ without_match (table_of mem.now) mode (query_of d q) partial }
 {
     if has_switch(mem, FLAG_IGNORED) {
         PermissionState::Ignored
-    } else if is_denied_partial(partial, mode) {
+    } else if partial && mode == AllowPartial::TreatAsDenied {
         PermissionState::DeniedPartial
     } else if is_denied(mem, d) {
         PermissionState::Denied
@@ -261,7 +260,8 @@ fn without_match(mem: &[u8], mode: AllowPartial, d: Descriptor, partial: bool) -
 }
 
 // The state that follows from what was seen, the switches and the marks.
-fn state_of(mem: &[u8], mode: AllowPartial, d: Descriptor, seen: Seen) -> PermissionState
+#[tactic(auto, unfolding(crate::specs::Seeing::kind_of_match, crate::specs::Walk::by_match))]
+fn state_from(mem: &[u8], mode: AllowPartial, d: Descriptor, seen: Seen) -> PermissionState
     requires { holds mem.now ≡ true }
     ensures { (q : List ℕ) → Follows (table_of mem.now) mode (query_of d q) seen result }
 {
@@ -276,10 +276,11 @@ pub fn query_desc(mem: &[u8], mode: AllowPartial, d: Descriptor, q: &[u8]) -> Pe
     requires { holds mem.now ≡ true }
     ensures { result ≡ query_desc (table_of mem.now) mode (query_of d q.now) }
 {
-    state_of(mem, mode, d, see(mem, mode, d, q))
+    state_from(mem, mode, d, see(mem, mode, d, q))
 }
 
 // Whether every query is granted: switch 1 alone of 1, 2, 4, 8 is set, and no mark is.
+#[tactic(auto, unfolding(crate::specs::Walk::is_allow_all))]
 pub fn is_allow_all(mem: &[u8]) -> bool
     requires { holds mem.now ≡ true }
     ensures { result ≡ is_allow_all (table_of mem.now) }

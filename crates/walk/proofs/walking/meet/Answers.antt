@@ -1,9 +1,11 @@
 -- `meet` meets its contract: apart by the quick test, and else by what the comparison says.
 use mathlib.Core.Path.{sym, ◌∙◌}
+use Rattle.std.proofs.Common.{arith}
+use Rattle.std.proofs.lemmas.Grind.{common_steps}
 use Rattle.paths.proofs.ApartLaws.{apart-prefix, apart-extension}
-use Rattle.paths.proofs.RelationLaws.{compared-said}
-use Rattle.walk.proofs.SeeingLaws.{meets-said}
+use Rattle.walk.proofs.SeeingLaws.{meets-compared}
 use Rattle.walk.proofs.walking.meet.Goals as goal
+use Rattle.walk.proofs.walking.meet.Goals.{in-Equal, in_default}
 
 pub returns-then-is_apart : goal.returns-then-is_apart
 returns-then-is_apart c =
@@ -13,17 +15,8 @@ returns-then-is_apart c =
       below = sym (apart-extension _ _ c.requires.0 q-resolved c.is_apart.ensures c.if-is_apart.true);
     }
 
-pub returns-in-Equal : goal.returns-in-Equal
-returns-in-Equal c = meets-said (compared-said c.relate-compared.ensures c.in-Equal.is)
+pub returns-in-Equal-matches : goal.returns-in-Equal-matches
+returns-in-Equal-matches c = meets-compared c.relate-relation.ensures (grind (arith, common_steps)) (grind (arith, common_steps))
 
-pub returns-in-Prefix : goal.returns-in-Prefix
-returns-in-Prefix c = meets-said (compared-said c.relate-compared.ensures c.in-Prefix.is)
-
-pub returns-in-Extension : goal.returns-in-Extension
-returns-in-Extension c = meets-said (compared-said c.relate-compared.ensures c.in-Extension.is)
-
-pub returns-in-Less : goal.returns-in-Less
-returns-in-Less c = meets-said (compared-said c.relate-compared.ensures c.in-Less.is)
-
-pub returns-in-Greater : goal.returns-in-Greater
-returns-in-Greater c = meets-said (compared-said c.relate-compared.ensures c.in-Greater.is)
+pub returns-in_default-matches : goal.returns-in_default-matches
+returns-in_default-matches c = meets-compared c.relate-relation.ensures (grind (arith, common_steps)) (grind (arith, common_steps))

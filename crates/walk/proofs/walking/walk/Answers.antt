@@ -7,9 +7,6 @@ use Rattle.walk.proofs.walking.walk.Goals.{then-met+else-is_settled, else-met}
 pub loop-mode-init : goal.loop-mode-init
 loop-mode-init c = rw c.first-cursor.ensures (first-in _ c.requires, walking_start _ _ _ refl refl)
 
-pub path-requires : goal.path-requires
-path-requires c = record { rest = c.loop-mode.invariant.0; more = sym c.is_at_entry.ensures ∙ c.loop-mode-test.true }
-
 pub meet-met-requires : goal.meet-met-requires
 meet-met-requires c = (
   path-resolved
@@ -18,10 +15,6 @@ meet-met-requires c = (
   c.is_resolved-resolved.ensures,
 )
 
-pub kind-requires : goal.kind-requires
-kind-requires c =
-    record { rest = c.loop-mode.invariant.0; more = sym c.is_at_entry.ensures ∙ c.loop-mode-test.true }
-
 pub returns-then-is_settled : goal.returns-then-is_settled
 returns-then-is_settled c =
     let inv = c.loop-mode.invariant in
@@ -29,10 +22,6 @@ returns-then-is_settled c =
     let M = meets_at c.meet-met.ensures c.path.ensures in
     walking-settled _ (sym c.is_settled.ensures ∙ c.if-is_settled.true)
     (walking_on more inv.1 (c.with_entry-seen.ensures.more _ _ _ c.kind.ensures M inv.1.sees))
-
-pub advance-cursor-requires : goal.advance-cursor-requires
-advance-cursor-requires c =
-    record { rest = c.loop-mode.invariant.0; more = sym c.is_at_entry.ensures ∙ c.loop-mode-test.true }
 
 pub loop-mode-smaller : goal.loop-mode-smaller
 loop-mode-smaller c =

@@ -1,11 +1,13 @@
 -- Laws of the link in a checking order: its record space and run, and what is known where they are passed.
 use Rattle.std.specs.Prelude.{Option, None, Some, Ok, Err}
-use Prim.Native.Nat.{ℕ, zero, suc, ◌+◌, ◌*◌, ◌/◌, ◌≤◌}
+use Prim.Native.Nat.{ℕ, zero, suc, max, ◌+◌, ◌*◌, ◌/◌, ◌≤◌}
 use mathlib.Core.Path.{◌≡◌, refl}
 use mathlib.Core.List.{List}
 use mathlib.Core.Bool.{true, false}
 use native.Mathlib.Omega.{arith}
 use lib.ListN.{length}
+use lib.Dec.{ltb}
+use Rattle.std.proofs.lemmas.Grind.{common_steps}
 use borrow.Author.Tests.{ltb-false, not-false}
 use Rattle.refusals.specs.declared.Refusal.{Refusal}
 use Rattle.refusals.specs.declared.Refusal.TheVariants.{NoSpace, Unknown, TableFull}
@@ -24,20 +26,14 @@ use Rattle.link.specs.Steps.{Admits, Ready}
 
 -- ---- the record space of k items
 
-pub least-one : (k : ℕ) → 1 ≤ at_least_one k
+least-max : (k : ℕ) → at_least_one k ≡ max k 1
 unfolding at_least_one
-least-one zero = omega arith
-least-one (suc k) = omega arith
+least-max zero = omega arith
+least-max (suc k) = omega arith
 
-pub least-many : (k : ℕ) → k ≤ at_least_one k
-unfolding at_least_one
-least-many zero = omega arith
-least-many (suc k) = omega arith
-
-pub least-few : (k w : ℕ) → 1 ≤ w / record_space → k ≤ w / record_space → record_space * at_least_one k ≤ w
-unfolding at_least_one
-least-few zero w h l = omega arith
-least-few (suc k) w h l = omega arith
+-- whether the words are too few is told by how many records they have room for
+pub short-by : (k w : ℕ) → ltb (w / record_space) (max k 1) ≡ ltb w (record_space * at_least_one k)
+short-by k w = rw (least-max k) (grind (arith, common_steps))
 
 -- ---- the two tests, as steps of a checking order
 

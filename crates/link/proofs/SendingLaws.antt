@@ -1,5 +1,5 @@
 -- Laws of carrying an act out and recording it: the records of acts, one act, and what a call leaves that makes one unless it is refused.
-use Rattle.std.specs.Prelude.{Option, None, Some, Err}
+use Rattle.std.specs.Prelude.{Option, None, Some, Ok, Err}
 use Prim.Native.Nat.{ℕ, ◌+◌, ◌≤◌, ◌<◌}
 use mathlib.Core.Path.{◌≡◌, refl, sym, ap, ◌∙◌}
 use mathlib.Core.List.{List, [], ◌∷◌, ◌++◌, append-nil}
@@ -12,25 +12,24 @@ use Rattle.refusals.specs.declared.Refusal.{Refusal}
 use Rattle.refusals.specs.declared.Refusal.TheVariants.{TableFull, NumbersUsedUp}
 use Rattle.refusals.specs.Refusals.{when, first_cause, Result, unless, cause_of}
 use Rattle.paths.specs.Copying.{begun, Appends}
-use Rattle.table.specs.declared.Outcome.{Outcome}
-use Rattle.table.specs.declared.Outcome.TheVariants.{Done, Refused}
+use Rattle.table.specs.declared.Action.{Action}
+use Rattle.table.specs.declared.Action.TheVariants.{Nothing, Insert, SetSwitches, Revoke, RevokeAll}
 use Rattle.table.specs.Tables.{Table}
 use Rattle.table.specs.Acts.{Act, act_overflows}
 use Rattle.table.specs.Memory.{table_of, do_acts}
-use Rattle.table.specs.Carrying.{room_cause, acts_of, outcome_of, fits, CarriesOut}
+use Rattle.table.specs.Carrying.{room_cause, acts_of, outcome_of, act_of, fits, CarriesOut}
 use Rattle.table.proofs.Overwrites.{appends-none, appends-more, from_start}
-use Rattle.table.proofs.ActLaws.{carried-done, carried-refused}
-use Rattle.records.specs.Numbers.{max_number}
+use Rattle.table.proofs.ActLaws.{outcome-done, outcome-refused, carried-done, carried-refused}
+use Rattle.records.specs.Numbers.{max_number, record_space}
 use Rattle.records.specs.Records.{Change, change_words, numbered, all_words}
 use Rattle.records.specs.Answers.{record_words}
 use Rattle.records.proofs.RecordLaws.{few_words}
 use Rattle.records.proofs.NumberedLaws.{numbered-length, numbered-words}
 use Rattle.link.specs.declared.Link.{Link}
 use Rattle.link.specs.declared.Link.TheVariants.{Plain, Linked}
-use Rattle.link.specs.declared.Sent.{Sent}
 use Rattle.link.specs.Linking.{unnumbered, after, numbering, used_up, past, carry_cause, carried, single_act}
-use Rattle.link.specs.Sending.{changes_of, Lent, lent, alone, Sends, Does}
-use Rattle.link.specs.Steps.{is_none, no_number, Records, SendsAt, refused_sent, Performs}
+use Rattle.link.specs.Sending.{changes_of, Lent, lent, alone, Sends, sent_words, Does}
+use Rattle.link.specs.Steps.{is_none, no_number, Records, SendsAt, Performs}
 
 -- ---- acts in turn
 
@@ -79,6 +78,15 @@ records-then {link} h A B = then_by link h A B
 
 -- ---- one act of a run
 
+-- whatever is not nothing is an act
+pub is-act : (action : Action) (q : List ℕ) → (action ≡ Nothing → ⊥) → is_none (act_of action q) ≡ false
+unfolding is_none act_of
+is-act Nothing q ne = absurd (ne refl)
+is-act (Insert kind) q ne = refl
+is-act (SetSwitches v) q ne = refl
+is-act Revoke q ne = refl
+is-act RevokeAll q ne = refl
+
 pub sends_none : (act : Option Act) (run n : ℕ) (w : List ℕ) (at : ℕ) → is_none act ≡ true → SendsAt act run n w at n w at
 unfolding is_none acts_of
 sends_none None run n w at e = record { records = records-none (Linked run) n w at; few = omega arith }
@@ -95,12 +103,12 @@ sends-record (Some act) run n w at e a f W =
 
 -- ---- causes 8 and 9 by the number
 
-plain-cause : (t : Table) (act : Option Act) → carry_cause unnumbered t act ≡ room_cause t act
+pub plain-cause : (t : Table) (act : Option Act) → carry_cause unnumbered t act ≡ room_cause t act
 unfolding carry_cause room_cause first_cause used_up
 plain-cause t None = refl
 plain-cause t (Some act) = refl
 
-left-cause : (n : ℕ) (t : Table) (act : Option Act) → n < max_number → carry_cause (after n) t act ≡ room_cause t act
+pub left-cause : (n : ℕ) (t : Table) (act : Option Act) → n < max_number → carry_cause (after n) t act ≡ room_cause t act
 unfolding carry_cause room_cause first_cause used_up
 left-cause n t None h = refl
 left-cause n t (Some act) h = let free : leb max_number n ≡ false = lt-leb max_number n h in rw free
@@ -111,7 +119,7 @@ unfolding carry_cause used_up no_number outcome_of
 used-outcome n t None h = refl
 used-outcome n t (Some act) h = rw (le-leb max_number n h) (by (act_overflows t act))
   where
-    by : (over : Bool) → outcome_of (first_cause (when over TableFull ∷ when true NumbersUsedUp ∷ [])) ≡ cond over (Refused TableFull) (Refused NumbersUsedUp)
+    by : (over : Bool) → outcome_of (first_cause (when over TableFull ∷ when true NumbersUsedUp ∷ [])) ≡ cond over (Err TableFull) (Err NumbersUsedUp)
     by true = unfold first_cause in refl
     by false = unfold first_cause in refl
 
@@ -126,47 +134,43 @@ used-acts n t (Some act) h = rw (le-leb max_number n h) (by (act_overflows t act
 
 -- ---- an act that is carried out, or refused
 
-module _ {act : Option Act} {m : List ℕ} {n : ℕ} {w : List ℕ} {at : ℕ} where
-  pub performs-plain : {link : Link} {m' : List ℕ} {o : Outcome} → link ≡ Plain → CarriesOut act m m' o
-      → Performs link act (lent m n w) at (lent m' n w) (record { outcome = o; words = at })
-  unfolding numbering
-  performs-plain e C = rw e (record {
-    outcome = rw (plain-cause (table_of m) act) C.outcome;
-    memory = rw (plain-cause (table_of m) act) C.memory;
-    records = records-plain _ n w at;
-    few = omega arith;
-  })
+module _ {link : Link} {act : Option Act} {m : List ℕ} {n : ℕ} {w : List ℕ} {at : ℕ} where
+  performs-stopped : {cause : Refusal} → carry_cause (numbering link n) (table_of m) act ≡ Some cause
+      → Performs link act (lent m n w) at (lent m n w) (Err cause)
+  unfolding acts_of do_acts unless
+  performs-stopped e = record { end = at; answer = rw e; memory = rw e; records = rw e (records-none link n w at); few = omega arith }
 
-  module _ {run : ℕ} where
-    pub performs-unnumbered : {o : Outcome} → max_number ≤ n → o ≡ no_number (table_of m) act
-        → Performs (Linked run) act (lent m n w) at (lent m n w) (record { outcome = o; words = at })
-    unfolding numbering do_acts
-    performs-unnumbered h e = record {
-      outcome = e ∙ sym (used-outcome n (table_of m) act h);
-      memory = rw (used-acts n (table_of m) act h);
-      records = rw (used-acts n (table_of m) act h) (records-none (Linked run) n w at);
+  -- the number is no cause
+  module _ {m' : List ℕ} (free : carry_cause (numbering link n) (table_of m) act ≡ room_cause (table_of m) act) where
+    pub performs-refused : {cause : Refusal} → CarriesOut act m m' (Err cause) → Performs link act (lent m n w) at (lent m' n w) (Err cause)
+    unfolding acts_of do_acts
+    performs-refused C =
+        let full = carried-refused C refl in
+        let kept : m' ≡ m = C.memory ∙ rw full in
+        rw kept (performs-stopped (free ∙ full))
+
+    pub performs-done : {u : Unit} {n' : ℕ} {w' : List ℕ} {k : ℕ} → CarriesOut act m m' (Ok u)
+        → Records link (acts_of None act) n w at n' w' k → k ≤ at + record_space → Performs link act (lent m n w) at (lent m' n' w') (Ok k)
+    unfolding unless
+    performs-done {k = k} C R few =
+        let room = carried-done C refl in
+        record { end = k; answer = rw (free, room); memory = rw free C.memory; records = rw (free, room) R; few = few }
+
+  -- no number is left
+  module _ {run : ℕ} (linked : link ≡ Linked run) (used : max_number ≤ n) where
+    pub performs-unnumbered : {cause : Refusal} → Err cause ≡ no_number (table_of m) act → Performs link act (lent m n w) at (lent m n w) (Err cause)
+    unfolding numbering
+    performs-unnumbered e = performs-stopped (rw linked (outcome-refused _ (used-outcome n (table_of m) act used ∙ sym e)))
+
+    pub performs-nothing : {u : Unit} → Ok u ≡ no_number (table_of m) act → Performs link act (lent m n w) at (lent m n w) (Ok at)
+    unfolding numbering do_acts unless
+    performs-nothing e = rw linked (record {
+      end = at;
+      answer = rw (outcome-done _ (used-outcome n (table_of m) act used ∙ sym e));
+      memory = rw (used-acts n (table_of m) act used);
+      records = rw (used-acts n (table_of m) act used) (records-none (Linked run) n w at);
       few = omega arith;
-    }
-
-    module _ {m' : List ℕ} {o : Outcome} (left : n < max_number) (C : CarriesOut act m m' o) where
-      pub performs-refused : {cause : Refusal} → o ≡ Refused cause → Performs (Linked run) act (lent m n w) at (lent m' n w) (record { outcome = Refused cause; words = at })
-      unfolding numbering acts_of
-      performs-refused e = record {
-        outcome = rw (left-cause n (table_of m) act left) (sym e ∙ C.outcome);
-        memory = rw (left-cause n (table_of m) act left) C.memory;
-        records = rw (left-cause n (table_of m) act left, carried-refused C e) (records-none (Linked run) n w at);
-        few = omega arith;
-      }
-
-      pub performs-done : {n' : ℕ} {w' : List ℕ} {k : ℕ} → o ≡ Done → SendsAt act run n w at n' w' k
-          → Performs (Linked run) act (lent m n w) at (lent m' n' w') (record { outcome = Done; words = k })
-      unfolding numbering
-      performs-done e S = record {
-        outcome = rw (left-cause n (table_of m) act left) (sym e ∙ C.outcome);
-        memory = rw (left-cause n (table_of m) act left) C.memory;
-        records = rw (left-cause n (table_of m) act left, carried-done C e) S.records;
-        few = S.few;
-      }
+    })
 
 -- ---- what a call leaves
 
@@ -178,6 +182,11 @@ sends-nothing {link} {l = l} e = rw e (record {
   words = rw (no-changes link l.number);
   count = rw (no-changes link l.number);
 })
+
+-- no act takes no word
+no-words : {link : Link} {l l' : Lent} {k : ℕ} → Sends link [] l l' k → k ≡ 0
+unfolding all_words
+no-words {link} {l} S = S.count ∙ rw (no-changes link l.number)
 
 pub sends-recorded : {link : Link} {acts : List Act} {l l' : Lent} {k : ℕ} → l'.memory ≡ do_acts l.memory acts
     → Records link acts l.number l.words 0 l'.number l'.words k → Sends link acts l l' k
@@ -191,20 +200,20 @@ sends-alone S = record { memory = S.memory; number = refl; words = refl; count =
 -- ---- a call that makes one act unless it is refused
 
 -- a plain call that comes to the same with memory alone lent
-pub does-alone : {call call' : Result Act} {l l' : Lent} {r : Sent} → call ≡ call' → Does Plain call l l' r → Does Plain call' (alone l.memory) (alone l'.memory) r
+pub does-alone : {call call' : Result Act} {l l' : Lent} {r : Result ℕ} → call ≡ call' → Does Plain call l l' r → Does Plain call' (alone l.memory) (alone l'.memory) r
 does-alone e D = rw (← e) (record { outcome = D.outcome; sends = sends-alone D.sends })
 
 module _ {link : Link} {call : Result Act} {l : Lent} where
-  pub does-refuse : {cause : Refusal} {r : Sent} → call ≡ Err cause → r ≡ refused_sent cause → Does link call l l r
-  unfolding outcome_of cause_of single_act
-  does-refuse e f = rw f (record { outcome = rw e; sends = sends-nothing (rw e) })
+  pub does-refuse : {cause : Refusal} → call ≡ Err cause → Does link call l l (Err cause)
+  unfolding cause_of single_act
+  does-refuse e = record { outcome = rw e; sends = sends-nothing (rw e) }
 
-  pub does-perform : {act : Act} {l' : Lent} {r : Sent} → call ≡ carried (numbering link l.number) (table_of l.memory) act
+  pub does-perform : {act : Act} {l' : Lent} {r : Result ℕ} → call ≡ carried (numbering link l.number) (table_of l.memory) act
       → Performs link (Some act) l 0 l' r → Does link call l l' r
   unfolding carried
   does-perform {act} {l'} {r} e P =
-      rw e (by (carry_cause (numbering link l.number) (table_of l.memory) (Some act)) P.outcome (sends-recorded P.memory P.records))
+      rw (e, P.answer) (by (carry_cause (numbering link l.number) (table_of l.memory) (Some act)) (sends-recorded P.memory P.records))
     where
-      by : (cause : Option Refusal) → r.outcome ≡ outcome_of cause → Sends link (acts_of cause (Some act)) l l' r.words → Does link (unless cause act) l l' r
-      by None f S = unfold unless cause_of single_act acts_of in record { outcome = f; sends = S }
-      by (Some cause) f S = unfold unless cause_of single_act acts_of in record { outcome = f; sends = S }
+      by : (cause : Option Refusal) → Sends link (acts_of cause (Some act)) l l' P.end → Does link (unless cause act) l l' (unless cause P.end)
+      by None S = unfold unless cause_of single_act acts_of in record { outcome = refl; sends = S }
+      by (Some cause) S = unfold unless cause_of single_act acts_of in record { outcome = refl; sends = rw (no-words S) at S }

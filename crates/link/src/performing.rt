@@ -15,13 +15,6 @@ use table::carrying::carry_out;
 use table::placing::overflows;
 use table::Action;
 
-// Whether there is no act.
-fn is_nothing(action: Action) -> bool
-    ensures { (q : List ℕ) → result ≡ is_none (act_of action q) }
-{
-    matches!(action, Action::Nothing)
-}
-
 // Why an act is refused for which no number is left: an insert with no room comes first.
 fn without_number(mem: &[u8], action: Action, q: &[u8]) -> Result<(), Refusal>
     requires { holds mem.now ≡ true }
@@ -29,8 +22,14 @@ fn without_number(mem: &[u8], action: Action, q: &[u8]) -> Result<(), Refusal>
 {
     match action {
         Action::Nothing => Ok(()),
-        Action::Insert(kind) if overflows(mem, kind, q) => Err(Refusal::TableFull),
-        _ => Err(Refusal::NumbersUsedUp),
+        Action::Insert(kind) => {
+            if overflows(mem, kind, q) {
+                Err(Refusal::TableFull)
+            } else {
+                Err(Refusal::NumbersUsedUp)
+            }
+        }
+        Action::SetSwitches(_) | Action::Revoke | Action::RevokeAll => Err(Refusal::NumbersUsedUp),
     }
 }
 
@@ -48,7 +47,7 @@ fn send_at(
     requires q_value { (fits (act_of action q.now) ≡ true) × (number.old < max_number) }
     ensures { SendsAt (act_of action q.now) run number.old words.old at number.new words.new result }
 {
-    if is_nothing(action) {
+    if matches!(action, Action::Nothing) {
         return at;
     }
     let next = *number + 1;

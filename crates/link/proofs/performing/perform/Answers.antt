@@ -1,12 +1,17 @@
 -- `perform` meets its contract.
-use Rattle.link.proofs.SendingLaws.{performs-plain}
+use native.Mathlib.Omega.{arith}
+use Rattle.std.proofs.lemmas.Result.{err_from_is_err_and}
+use Rattle.link.specs.Linking.{numbering}
+use Rattle.link.proofs.SendingLaws.{plain-cause, records-plain, performs-refused, performs-done}
 use Rattle.link.proofs.performing.perform.Goals as goal
 
-pub perform_linked-requires : goal.perform_linked-requires
-perform_linked-requires c = (c.requires.0, c.requires.1, rw c.in-Linked.is at c.requires.2)
+pub returns-in_err-carry_out-in-Plain : goal.returns-in_err-carry_out-in-Plain
+unfolding numbering
+returns-in_err-carry_out-in-Plain c =
+    let p = err_from_is_err_and c.from_residual.result c.from_residual.ensures.1 in
+    rw (p.1, p.2, c.in-Plain.is) (performs-refused (plain-cause _ _) c.in_err-carry_out-in-Plain.ensures)
 
-pub returns-in-Plain : goal.returns-in-Plain
-returns-in-Plain c = performs-plain c.in-Plain.is c.carry_out.ensures
-
-pub returns-in-Linked : goal.returns-in-Linked
-returns-in-Linked c = rw c.in-Linked.is c.perform_linked.ensures
+pub returns-in_ok-carry_out-in-Plain : goal.returns-in_ok-carry_out-in-Plain
+unfolding numbering
+returns-in_ok-carry_out-in-Plain c =
+    rw c.in-Plain.is (performs-done (plain-cause _ _) c.in_ok-carry_out-in-Plain.ensures (records-plain _ _ _ _) (omega arith))

@@ -1,16 +1,25 @@
 -- `perform_linked` meets its contract.
+use mathlib.Core.Path.{refl}
 use native.Mathlib.Omega.{arith}
-use Rattle.link.proofs.SendingLaws.{performs-unnumbered, performs-refused, performs-done}
+use Rattle.std.proofs.lemmas.Result.{err_from_is_err_and}
+use Rattle.link.proofs.SendingLaws.{left-cause, performs-unnumbered, performs-nothing, performs-refused, performs-done}
+use Rattle.link.specs.Linking.{numbering}
 use Rattle.link.proofs.performing.perform_linked.Goals as goal
 
-pub returns-then-last-ge-MAX_NUMBER : goal.returns-then-last-ge-MAX_NUMBER
-returns-then-last-ge-MAX_NUMBER c = performs-unnumbered (omega arith) c.without_number.ensures
+pub returns-in_err-without_number : goal.returns-in_err-without_number
+returns-in_err-without_number c =
+    let p = err_from_is_err_and c.from_residual.result c.from_residual.ensures.1 in
+    rw (p.1, p.2) (performs-unnumbered refl (omega arith) c.in_err-without_number.ensures)
 
-pub send_at-requires : goal.send_at-requires
-send_at-requires c = record { ready = c.requires.2; q_value = (c.requires.1, omega arith) }
+pub returns-then-number-ge-MAX_NUMBER : goal.returns-then-number-ge-MAX_NUMBER
+returns-then-number-ge-MAX_NUMBER c = performs-nothing refl (omega arith) c.in_ok-without_number.ensures
 
-pub returns-in-Refused : goal.returns-in-Refused
-returns-in-Refused c = performs-refused (omega arith) c.carry_out.ensures c.in-Refused.is
+pub returns-in_err-carry_out : goal.returns-in_err-carry_out
+unfolding numbering
+returns-in_err-carry_out c =
+    let p = err_from_is_err_and c.from_residual-in_err-carry_out.result c.from_residual-in_err-carry_out.ensures.1 in
+    rw (p.1, p.2) (performs-refused (left-cause _ _ _ (omega arith)) c.in_err-carry_out.ensures)
 
-pub returns-in-Done : goal.returns-in-Done
-returns-in-Done c = performs-done (omega arith) c.carry_out.ensures c.in-Done.is c.send_at.ensures
+pub returns : goal.returns
+unfolding numbering
+returns c = performs-done (left-cause _ _ _ (omega arith)) c.in_ok-carry_out.ensures c.send_at.ensures.records c.send_at.ensures.few

@@ -1,23 +1,23 @@
 -- `send_at` meets its contract.
 use mathlib.Core.Path.{refl, sym, ◌∙◌}
 use native.Mathlib.Omega.{arith}
+use Rattle.table.specs.Carrying.{act_of}
 use Rattle.records.proofs.RecordLaws.{run-few}
-use Rattle.link.proofs.SendingLaws.{sends_none, sends-record}
+use Rattle.link.specs.Steps.{is_none}
+use Rattle.link.proofs.SendingLaws.{is-act, sends_none, sends-record}
 use Rattle.link.proofs.performing.send_at.Goals as goal
+use Rattle.link.proofs.performing.send_at.Goals.{in-Nothing, in_default}
 
-pub returns-then-is_nothing : goal.returns-then-is_nothing
-returns-then-is_nothing c = sends_none _ _ _ _ _ (sym (c.is_nothing.ensures _) ∙ c.if-is_nothing.true)
+pub returns-then-matches : goal.returns-then-matches
+unfolding is_none act_of
+returns-then-matches c = sends_none _ _ _ _ _ (elim c.match-matches.branch [ in-Nothing w ↦ rw w.in-Nothing.is | in_default w ↦ cc ])
 
-pub overflow_add-next : goal.overflow_add-next
-overflow_add-next c = omega (arith, c.requires.q_value.1)
-
-pub write_record-requires : goal.write_record-requires
-write_record-requires c =
+pub write_record-requires-clause-record_space_in_bounds : goal.write_record-requires-clause-record_space_in_bounds
+write_record-requires-clause-record_space_in_bounds c =
     let pre = c.requires in
-    record {
-      record_space_in_bounds = (omega (arith, pre.ready.room _ refl), run-few _ (pre.ready.known _ refl), omega (arith, pre.q_value.1));
-      q_value = pre.q_value.0;
-    }
+    (omega (arith, pre.ready.room _ refl), run-few _ (pre.ready.known _ refl), omega (arith, pre.q_value.1))
 
 pub returns : goal.returns
-returns c = sends-record _ _ _ _ _ (sym (c.is_nothing.ensures _) ∙ c.if-is_nothing.false) c.requires.q_value.0 refl c.write_record.ensures
+returns c =
+    sends-record _ _ _ _ _ (elim c.match-matches.branch [ in-Nothing w ↦ cc | in_default w ↦ is-act _ _ w.in_default.not-Nothing ]) c.requires.q_value.0 refl
+    c.write_record.ensures

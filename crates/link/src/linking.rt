@@ -16,6 +16,7 @@ fn is_short(words: usize, items: usize) -> bool
 }
 
 // Whether a linked call of so many items has too few words for their records.
+#[tactic(auto, unfolding(crate::specs::Linking::lacks_room))]
 pub fn lacks_room(link: Link, items: usize, words: &[u32]) -> bool
     ensures { result ≡ lacks_room items link words.now }
 {
@@ -26,6 +27,7 @@ pub fn lacks_room(link: Link, items: usize, words: &[u32]) -> bool
 }
 
 // Whether a linked call is handed a number that is no run's.
+#[tactic(auto, unfolding(crate::specs::Linking::lacks_run))]
 pub fn lacks_run(link: Link) -> bool
     ensures { result ≡ lacks_run link }
 {
@@ -36,6 +38,7 @@ pub fn lacks_run(link: Link) -> bool
 }
 
 // The link's tests of a call of so many items: its record space (2), then its run number (3).
+#[tactic(auto, unfolding(crate::specs::Linking::admit, refusals::specs::Refusals::first_cause, refusals::specs::Refusals::unless))]
 pub fn admit(link: Link, items: usize, words: &[u32]) -> Result<(), Refusal>
     ensures { result ≡ admit items link words.now }
 {

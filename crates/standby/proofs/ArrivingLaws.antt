@@ -11,26 +11,23 @@ use lib.Dec.{leb, ltb, eqb}
 use borrow.Author.Tests.{lt-ltb, le-ltb, ltb-true, ltb-false, le-leb, lt-leb, leb-true, leb-false, eq-eqb, ne_eqb, eqb-true, eqb-false}
 use Rattle.refusals.specs.declared.Refusal.{Refusal}
 use Rattle.refusals.specs.declared.Refusal.TheVariants.{NoTable, MalformedRecord}
-use Rattle.refusals.specs.Refusals.{first_cause, Result, and_then, unless}
-use Rattle.refusals.proofs.CauseLaws.{unless-ok}
+use Rattle.refusals.specs.Refusals.{first_cause, Result, and_then, unless, cause_of}
+use Rattle.refusals.proofs.CauseLaws.{Some-injective, unless-ok}
 use Rattle.paths.specs.Resolving.{max_path}
 use Rattle.paths.specs.Copying.{begun}
 use Rattle.paths.specs.Giving.{is_path}
 use Rattle.paths.proofs.ComponentLaws.{and_left}
 use Rattle.table.specs.declared.Action.{Action}
-use Rattle.table.specs.declared.Outcome.{Outcome}
-use Rattle.table.specs.declared.Outcome.TheVariants as outcome
 use Rattle.table.specs.Tables.{Table, max_path_bytes, fresh, path_bytes, is_entry}
 use Rattle.table.specs.Acts.{Act, insert, set_switches, revoke, revoke_all, is_act, would_add, has_room, overflows, act_overflows}
 use Rattle.table.specs.Memory.{table_of, holds, put, do_act, do_acts}
-use Rattle.table.specs.Carrying.{room_cause, acts_of, act_of, action_of, fits, CarriesOut}
+use Rattle.table.specs.Carrying.{room_cause, acts_of, outcome_of, act_of, action_of, fits, CarriesOut}
 use Rattle.table.specs.Calls.{with_room, MakesFresh}
 use Rattle.table.proofs.ActLaws.{carried-done, carried-refused}
-use Rattle.table.proofs.CallLaws.{made-fresh}
+use Rattle.table.proofs.CallLaws.{fresh-long, made-fresh}
 use Rattle.table.proofs.Puts.{long_of, table_of-put, holds-put}
 use Rattle.table.proofs.TableLaws.{fresh-table}
 use Rattle.records.specs.declared.Record.{Record}
-use Rattle.records.specs.declared.Record.TheVariants as answer
 use Rattle.records.specs.Records.{Change, Read, act_path, change_words, read_first, read_change}
 use Rattle.records.specs.Answers.{record_answer, record_into, ReadsRecord}
 use Rattle.records.proofs.WrittenLaws.{written_back, no_record, whole-record, words_left}
@@ -55,8 +52,10 @@ use Rattle.standby.specs.Arriving.{
   arrival,
   left_by,
   Comes,
+  numbers_in,
+  arrival_in,
 }
-use Rattle.standby.specs.Steps.{unchanged, change_of, Moves, Takes}
+use Rattle.standby.specs.Steps.{change_of, Moves, Takes}
 
 -- ---- numbers that a standby has
 
@@ -89,7 +88,7 @@ module _ (s : Numbers) where
   agrees e = go (ltb s.highest s.run) refl e
     where
       go : (b : Bool) → ltb s.highest s.run ≡ b → (b || (eqb s.run s.highest && ltb s.h s.n)) ≡ false → Agrees s
-      go true f g = let z : ◌≡◌ {A = ℕ} 0 1 = cc in absurd (omega arith)
+      go true f g = cc
       go false f g = record {
         below = ltb-false s.highest s.run f;
         ordered = λ same. ltb-false s.h s.n (sym (rw (eq-eqb s.run s.highest same)) ∙ g);
@@ -158,18 +157,18 @@ act-again (set_switches v) space = refl
 act-again (revoke q) space = rw (take_at q _ _ refl)
 act-again revoke_all space = refl
 
--- the words are a change with this run and number, and its act is this action with the path that is the first `size` bytes of the space
-pub record IsChange (words : List ℕ) (run number : ℕ) (action : Action) (size : ℕ) (space : List ℕ) : Type 0 where
+-- the words are the change that was told, and its act is the told action with the path that is the first `size` bytes of the space
+pub record IsChange (words : List ℕ) (told : Record) (space : List ℕ) : Type 0 where
   pub act : Act
-  pub read : read_change words ≡ Some (change_of run number act)
-  pub acting : act_of action (take size space) ≡ Some act
-  pub fitting : fits (act_of action (take size space)) ≡ true
-  pub room : size ≤ length space
+  pub read : read_change words ≡ Some (change_of told.run told.number act)
+  pub acting : act_of told.action (take told.size space) ≡ Some act
+  pub fitting : fits (act_of told.action (take told.size space)) ≡ true
+  pub room : told.size ≤ length space
 
-is-change : (words : List ℕ) (c : Change) (space : List ℕ) → read_change words ≡ Some c
-    → IsChange words c.run c.number (action_of (Some c.act)) (length (act_path c.act)) (begun (act_path c.act) space)
+is-change : (words : List ℕ) (c : Change) (space : List ℕ) (end : ℕ) → read_change words ≡ Some c
+    → IsChange words (record { run = c.run; number = c.number; action = action_of (Some c.act); size = length (act_path c.act); end = end }) (begun (act_path c.act) space)
 unfolding begun fits
-is-change words c space e = record {
+is-change words c space end e = record {
   act = c.act;
   read = e;
   acting = act-again c.act space;
@@ -177,41 +176,37 @@ is-change words c space e = record {
   room = omega (arith, length-append (act_path c.act) (drop (length (act_path c.act)) space));
 }
 
-module _ (words : List ℕ) {space after : List ℕ} {r : Record} (R : ReadsRecord 0 (read_first words) space r after) where
-  pub reads_none : r ≡ answer.Malformed → read_change words ≡ None
+module _ (words : List ℕ) {space after : List ℕ} {r : Option Record} (R : ReadsRecord 0 (read_first words) space r after) where
+  pub reads_none : r ≡ None → read_change words ≡ None
   unfolding record_answer
   reads_none e = go (read_first words) refl (sym R.answer ∙ e)
     where
-      go : (o : Option (Read Change)) → read_first words ≡ o → record_answer 0 o ≡ answer.Malformed → read_change words ≡ None
+      go : (o : Option (Read Change)) → read_first words ≡ o → record_answer 0 o ≡ None → read_change words ≡ None
       go None f g = no_record words f
-      go (Some d) f g = let z : ◌≡◌ {A = ℕ} 0 1 = cc in absurd (omega arith)
+      go (Some d) f g = cc
 
-  module _ {run number size end : ℕ} {action : Action} (e : r ≡ answer.Change run number action size end) where
+  module _ {told : Record} (e : r ≡ Some told) where
     -- it ends where the words end
-    pub reads-change : end ≡ length words → IsChange words run number action size after
+    pub reads-change : told.end ≡ length words → IsChange words told after
     unfolding record_answer record_into
     reads-change l = go (read_first words) refl (sym e ∙ R.answer) R.bytes
       where
-        go : (o : Option (Read Change)) → read_first words ≡ o → answer.Change run number action size end ≡ record_answer 0 o → after ≡ record_into o space
-            → IsChange words run number action size after
-        go None f g b = let z : ◌≡◌ {A = ℕ} 0 1 = cc in absurd (omega arith)
+        go : (o : Option (Read Change)) → read_first words ≡ o → Some told ≡ record_answer 0 o → after ≡ record_into o space → IsChange words told after
+        go None f g b = cc
         go (Some d) f g b =
-            let q : run ≡ d.value.run = cc in
-            let n : number ≡ d.value.number = cc in
-            let a : action ≡ action_of (Some d.value.act) = cc in
-            let k : size ≡ length (act_path d.value.act) = cc in
-            let i : end ≡ 0 + length (change_words d.value) = cc in
-            rw (q, n, a, k, b) (is-change words d.value space (whole-record words d f (omega arith)))
+            let same = Some-injective _ _ g in
+            let i : told.end ≡ 0 + length (change_words d.value) = ap (λ (x : Record). x.end) same in
+            rw (same, b) (is-change words d.value space _ (whole-record words d f (omega arith)))
 
     -- words are left over
-    pub reads_more : (end ≡ length words → ⊥) → read_change words ≡ None
+    pub reads_more : (told.end ≡ length words → ⊥) → read_change words ≡ None
     unfolding record_answer
     reads_more l = go (read_first words) refl (sym e ∙ R.answer)
       where
-        go : (o : Option (Read Change)) → read_first words ≡ o → answer.Change run number action size end ≡ record_answer 0 o → read_change words ≡ None
+        go : (o : Option (Read Change)) → read_first words ≡ o → Some told ≡ record_answer 0 o → read_change words ≡ None
         go None f g = no_record words f
         go (Some d) f g =
-            let i : end ≡ 0 + length (change_words d.value) = cc in
+            let i : told.end ≡ 0 + length (change_words d.value) = ap (λ (x : Record). x.end) (Some-injective _ _ g) in
             words_left words d f (λ k. l (omega arith))
 
 -- ---- what is met
@@ -365,25 +360,28 @@ taking t m s c = by-run (ltb c.run s.run) refl (ltb s.run c.run) refl
 -- ---- by the promise
 
 module _ {m : List ℕ} {s : Numbers} where
-  pub comes-refused : {call : Result Left} {cause : Refusal} {r : Arrived} → call ≡ Err cause → r ≡ unchanged cause s
-      → Comes call m s m r.numbers r.answer
+  pub comes-refused : {call : Result Left} {cause : Refusal} → call ≡ Err cause → Comes call m s m s (Err cause)
   unfolding left_by
-  comes-refused e f = rw (e, f) (record { answer = refl; memory = refl; numbers = refl })
+  comes-refused e = rw e (record { answer = refl; memory = refl; numbers = refl })
 
-  pub comes-left : {call : Result Left} {left : Left} {m' : List ℕ} {s' : Numbers} {r : Arrival} → call ≡ Ok left
+  pub comes-left : {call : Result Left} {left : Left} {m' : List ℕ} {s' : Numbers} {r : Result Arrival} → call ≡ Ok left
       → r ≡ left.answer → m' ≡ left.memory → s' ≡ left.numbers → Comes call m s m' s' r
   unfolding left_by
   comes-left e f g h = rw e (record { answer = f; memory = g; numbers = h })
 
-  pub comes-taken : {words : List ℕ} {run number : ℕ} {action : Action} {size : ℕ} {space m' : List ℕ} (r : Arrived) → IsChange words run number action size space
-      → Takes run number (act_of action (take size space)) m s m' r → holds m ≡ true → conflict s ≡ false
-      → Comes (arrival m words s) m s m' r.numbers r.answer
+  pub comes-taken : {words : List ℕ} {told : Record} {space m' : List ℕ} (r : Result Arrived) → IsChange words told space
+      → Takes told.run told.number (act_of told.action (take told.size space)) m s m' r → holds m ≡ true → conflict s ≡ false
+      → Comes (arrival m words s) m s m' (numbers_in s r) (arrival_in r)
   comes-taken r C T h l = rw (arrival-taken _ _ _ h l C.read) (T C.act C.acting)
 
--- a change of a higher run: first the table is cleared
-module _ {m : List ℕ} (h : holds m ≡ true) {clear : List ℕ} {o : Outcome} (F : MakesFresh m clear o) where
+-- a change of a higher run: first the table is cleared, and then every act that can be recorded has room
+module _ {m : List ℕ} (h : holds m ≡ true) {clear : List ℕ} {o : Result Unit} (F : MakesFresh m clear o) where
   cleared : clear ≡ put fresh m
   cleared = made-fresh (long_of m h) F
+
+  pub cleared-ok : o ≡ Ok tt
+  unfolding outcome_of cause_of
+  cleared-ok = F.outcome ∙ rw (fresh-long m (long_of m h))
 
   pub cleared-holds : holds clear ≡ true
   cleared-holds = ap holds cleared ∙ holds-put fresh m fresh-table (long_of m h)
@@ -391,25 +389,29 @@ module _ {m : List ℕ} (h : holds m ≡ true) {clear : List ℕ} {o : Outcome} 
   cleared-table : table_of clear ≡ fresh
   cleared-table = ap table_of cleared ∙ table_of-put fresh m
 
+  pub cleared-room : (act : Option Act) → fits act ≡ true → room_cause (table_of clear) act ≡ None
+  unfolding fits room_cause first_cause
+  cleared-room None f = refl
+  cleared-room (Some a) f = rw (cleared-table, fresh-room a f)
+
 module _ (m : List ℕ) (s : Numbers) (run number : ℕ) (act : Option Act) where
-  pub moves-early : (number ≡ 1 → ⊥) → Moves run number act m s m (record { answer = Early; numbers = s })
+  pub moves-early : (number ≡ 1 → ⊥) → Moves run number act m s m (record { arrival = Early; numbers = s })
   moves-early ne a e = comes-left (ap Ok (moved-early m s (change_of run number a) ne)) refl refl refl
 
-  pub moves-first : {clear m' : List ℕ} {o r : Outcome} {n : ℕ} → number ≡ 1 → n ≡ 1 → holds m ≡ true → fits act ≡ true → MakesFresh m clear o
+  pub moves-first : {clear m' : List ℕ} {o r : Result Unit} → number ≡ 1 → holds m ≡ true → fits act ≡ true → MakesFresh m clear o
       → CarriesOut act clear m' r
-      → Moves run number act m s m' (record { answer = Applied; numbers = record { n = n; h = s.h; run = run; highest = s.highest } })
-  unfolding fits room_cause first_cause acts_of do_acts
-  moves-first {clear} {m'} first one h fit F C a e =
-      let room = fresh-room a (rw e at fit) in
-      let done : m' ≡ do_act (put fresh m) a = C.memory ∙ rw (e, cleared-table h F, room, cleared h F) in
-      comes-left (ap Ok (moved-first m s (change_of run number a) first)) refl done (rw one)
+      → Moves run number act m s m' (record { arrival = Applied; numbers = record { n = 1; h = s.h; run = run; highest = s.highest } })
+  unfolding acts_of do_acts
+  moves-first {clear} {m'} first h fit F C a e =
+      let done : m' ≡ do_act (put fresh m) a = C.memory ∙ rw (cleared-room h F act fit, e, cleared h F) in
+      comes-left (ap Ok (moved-first m s (change_of run number a) first)) refl done refl
 
 -- a change of any run; `after` are the numbers once it is met
 module _ (m : List ℕ) (s : Numbers) (run number : ℕ) (act : Option Act) {after : Numbers} (M : after ≡ met s run number) where
-  pub takes-lower : run < after.run → Takes run number act m s m (record { answer = Repeat; numbers = after })
+  pub takes-lower : run < after.run → Takes run number act m s m (Ok (record { arrival = Repeat; numbers = after }))
   takes-lower l a e = comes-left (taken-lower _ m _ (change_of run number a) (rw M at l)) refl refl M
 
-  pub takes-higher : {m' : List ℕ} (r : Arrived) → after.run < run → Moves run number act m after m' r → Takes run number act m s m' r
+  pub takes-higher : {m' : List ℕ} (r : Arrived) → after.run < run → Moves run number act m after m' r → Takes run number act m s m' (Ok r)
   unfolding left_by
   takes-higher r l K a e =
       let call = taken-higher (table_of m) m (met s run number) (change_of run number a) (rw M at l) in
@@ -417,27 +419,27 @@ module _ (m : List ℕ) (s : Numbers) (run number : ℕ) (act : Option Act) {aft
       comes-left call C.answer C.memory C.numbers
 
   module _ (same : run ≡ after.run) where
-    pub takes-repeat : number ≤ after.n → Takes run number act m s m (record { answer = Repeat; numbers = after })
+    pub takes-repeat : number ≤ after.n → Takes run number act m s m (Ok (record { arrival = Repeat; numbers = after }))
     takes-repeat l a e = comes-left (taken-repeat _ m _ (change_of run number a) (rw M at same) (rw M at l)) refl refl M
 
-    pub takes-early : after.n + 1 < number → Takes run number act m s m (record { answer = Early; numbers = after })
+    pub takes-early : after.n + 1 < number → Takes run number act m s m (Ok (record { arrival = Early; numbers = after }))
     takes-early l a e = comes-left (taken-early _ m _ (change_of run number a) (rw M at same) (rw M at l)) refl refl M
 
-    module _ {m' : List ℕ} {r : Outcome} (next : number ≡ after.n + 1) (C : CarriesOut act m m' r) where
+    module _ (next : number ≡ after.n + 1) where
       next-taken : (a : Act) → taken (table_of m) m (met s run number) (change_of run number a) ≡ applied (table_of m) m (met s run number) (change_of run number a)
       next-taken a = taken_next _ m _ (change_of run number a) (rw M at same) (rw M at next)
 
-      pub takes-full : {cause : Refusal} {u : Arrived} → r ≡ outcome.Refused cause → u ≡ unchanged cause s → Takes run number act m s m' u
+      pub takes-full : {m' : List ℕ} {cause : Refusal} → CarriesOut act m m' (Err cause) → Takes run number act m s m' (Err cause)
       unfolding acts_of do_acts
-      takes-full over f a e =
-          let full = carried-refused C over in
+      takes-full {m'} C a e =
+          let full = carried-refused C refl in
           let kept : m' ≡ m = C.memory ∙ rw full in
-          rw kept (comes-refused (next-taken a ∙ applied-full _ m _ (change_of run number a) (rw e at full)) f)
+          rw kept (comes-refused (next-taken a ∙ applied-full _ m _ (change_of run number a) (rw e at full)))
 
-      pub takes-applied : {n : ℕ} → n ≡ after.n + 1 → r ≡ outcome.Done
-          → Takes run number act m s m' (record { answer = Applied; numbers = record { n = n; h = after.h; run = after.run; highest = after.highest } })
+      pub takes-applied : {m' : List ℕ} {u : Unit} {n : ℕ} → n ≡ after.n + 1 → CarriesOut act m m' (Ok u)
+          → Takes run number act m s m' (Ok (record { arrival = Applied; numbers = record { n = n; h = after.h; run = after.run; highest = after.highest } }))
       unfolding acts_of do_acts
-      takes-applied up done a e =
-          let room = carried-done C done in
+      takes-applied {m'} up C a e =
+          let room = carried-done C refl in
           let made : m' ≡ do_act m a = C.memory ∙ rw (room, e) in
           comes-left (next-taken a ∙ applied-room _ m _ (change_of run number a) (rw e at room)) refl made (rw (up, M))

@@ -2,75 +2,37 @@
 ghost use Rattle.std.specs.Prelude.{◌≡◌, true};
 ghost use Rattle.table.specs.Memory.{holds};
 ghost use Rattle.table.specs.Carrying.{act_of, fits};
-ghost use Rattle.standby.specs.Arriving.{conflict, met, numbers_in, arrival_in, Arrives};
+ghost use Rattle.standby.specs.Arriving.{numbers_in, arrival_in, Arrives};
 ghost use Rattle.standby.specs.Steps.{Moves, Takes};
 
 use crate::{Arrival, Arrived, Numbers};
 use paths::MAX_PATH;
+use records::Record;
 use records::reading::read_record;
 use refusals::Refusal;
-use table::Action;
 use table::acting::make_fresh;
 use table::carrying::carry_out;
 use table::holding::holds_table;
 
-// Whether the numbers are none that a standby has.
-pub(crate) fn in_conflict(numbers: Numbers) -> bool
-    ensures { result ≡ conflict numbers }
-{
-    numbers.highest < numbers.run || numbers.run == numbers.highest && numbers.h < numbers.n
-}
-
-// The numbers once a number of a run is met, by a record or an image that is not refused.
-pub(crate) fn meet(numbers: Numbers, run: u32, number: u64) -> Numbers
-    ensures { result ≡ met numbers run number }
-{
-    if numbers.highest < run {
-        return Numbers {
-            n: numbers.n,
-            h: number,
-            run: numbers.run,
-            highest: run,
-        };
-    }
-    if numbers.highest != run {
-        return numbers;
-    }
-    Numbers {
-        n: numbers.n,
-        h: numbers.h.max(number),
-        run: numbers.run,
-        highest: numbers.highest,
-    }
-}
-
 // A change of a higher run: change 1 clears the table and is applied there, where every act finds room; any other is early.
-fn take_higher(
-    mem: &mut [u8],
-    numbers: Numbers,
-    run: u32,
-    number: u64,
-    action: Action,
-    q: &[u8],
-) -> Arrived
-    requires { (holds mem.old ≡ true) × (fits (act_of action q.now) ≡ true) }
-    ensures { Moves run number (act_of action q.now) mem.old numbers mem.new result }
+fn take_higher(mem: &mut [u8], numbers: Numbers, record: Record, q: &[u8]) -> Arrived
+    requires { (holds mem.old ≡ true) × (fits (act_of record.action q.now) ≡ true) }
+    ensures { Moves record.run record.number (act_of record.action q.now) mem.old numbers mem.new result }
 {
-    if number != 1 {
+    if record.number != 1 {
         return Arrived {
             arrival: Arrival::Early,
             numbers,
         };
     }
-    make_fresh(mem);
-    carry_out(mem, action, q);
+    make_fresh(mem).unwrap();
+    carry_out(mem, record.action, q).unwrap();
     Arrived {
         arrival: Arrival::Applied,
         numbers: Numbers {
             n: 1,
-            h: numbers.h,
-            run,
-            highest: numbers.highest,
+            run: record.run,
+            ..numbers
         },
     }
 }
@@ -80,45 +42,40 @@ fn take_higher(
 fn take_change(
     mem: &mut [u8],
     numbers: Numbers,
-    run: u32,
-    number: u64,
-    action: Action,
+    record: Record,
     q: &[u8],
 ) -> Result<Arrived, Refusal>
-    requires { (holds mem.old ≡ true) × (fits (act_of action q.now) ≡ true) }
-    ensures { Takes run number (act_of action q.now) mem.old numbers mem.new result }
+    requires { (holds mem.old ≡ true) × (fits (act_of record.action q.now) ≡ true) }
+    ensures { Takes record.run record.number (act_of record.action q.now) mem.old numbers mem.new result }
 {
-    let after = meet(numbers, run, number);
-    if run < after.run {
+    let after = numbers.meet(record.run, record.number);
+    if record.run < after.run {
         return Ok(Arrived {
             arrival: Arrival::Repeat,
             numbers: after,
         });
     }
-    if after.run < run {
-        return Ok(take_higher(mem, after, run, number, action, q));
+    if record.run > after.run {
+        return Ok(take_higher(mem, after, record, q));
     }
-    let n = after.n;
-    if number <= n {
+    if record.number <= after.n {
         return Ok(Arrived {
             arrival: Arrival::Repeat,
             numbers: after,
         });
     }
-    if number > n + 1 {
+    if record.number > after.n + 1 {
         return Ok(Arrived {
             arrival: Arrival::Early,
             numbers: after,
         });
     }
-    carry_out(mem, action, q)?;
+    carry_out(mem, record.action, q)?;
     Ok(Arrived {
         arrival: Arrival::Applied,
         numbers: Numbers {
-            n: number,
-            h: after.h,
-            run: after.run,
-            highest: after.highest,
+            n: record.number,
+            ..after
         },
     })
 }
@@ -130,7 +87,7 @@ pub fn take_record(mem: &mut [u8], words: &[u32], numbers: Numbers) -> Result<Ar
     if !holds_table(mem) {
         return Err(Refusal::NoTable);
     }
-    if in_conflict(numbers) {
+    if numbers.in_conflict() {
         return Err(Refusal::NoTable);
     }
     let mut space = [0u8; MAX_PATH];
@@ -138,14 +95,7 @@ pub fn take_record(mem: &mut [u8], words: &[u32], numbers: Numbers) -> Result<Ar
     if record.end != words.len() {
         return Err(Refusal::MalformedRecord);
     }
-    take_change(
-        mem,
-        numbers,
-        record.run,
-        record.number,
-        record.action,
-        &space[..record.size],
-    )
+    take_change(mem, numbers, record, &space[..record.size])
 }
 
 // An arrival: the lent numbers are taken out, and what they are after it is put back. A refused one leaves them.

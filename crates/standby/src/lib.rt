@@ -1,6 +1,11 @@
 // The standby's half of the link: the arrival of a record or an image, and what is owed. The definitions are in specs/.
 #![tactic(auto)]
 
+ghost use Rattle.std.specs.Prelude.{◌≡◌};
+ghost use Rattle.standby.specs.Arriving.{conflict, met};
+
+use std::cmp::Ordering;
+
 pub mod arriving;
 pub mod loading;
 pub mod owing;
@@ -16,6 +21,35 @@ pub struct Numbers {
     pub run: u32,
     // The highest run met.
     pub highest: u32,
+}
+
+impl Numbers {
+    // Whether the numbers are none that a standby has.
+    #[tactic(auto, unfolding(crate::specs::Arriving::conflict))]
+    pub(crate) fn in_conflict(self) -> bool
+        ensures { result ≡ conflict self }
+    {
+        self.highest < self.run || self.run == self.highest && self.h < self.n
+    }
+
+    // The numbers once a number of a run is met, by a record or an image that is not refused.
+    #[tactic(auto, unfolding(crate::specs::Arriving::met, crate::specs::Arriving::higher))]
+    pub(crate) fn meet(self, run: u32, number: u64) -> Numbers
+        ensures { result ≡ met self run number }
+    {
+        match run.cmp(&self.highest) {
+            Ordering::Greater => Numbers {
+                h: number,
+                highest: run,
+                ..self
+            },
+            Ordering::Equal => Numbers {
+                h: self.h.max(number),
+                ..self
+            },
+            Ordering::Less => self,
+        }
+    }
 }
 
 // What an arrival that is not refused answers: its change was applied, had been before, or is not due yet; or its image was taken.

@@ -3,7 +3,6 @@ ghost use Rattle.std.specs.Prelude.{◌≡◌};
 ghost use Rattle.standby.specs.Arriving.{numbers_in, arrival_in};
 ghost use Rattle.standby.specs.Loading.{is_taken, Loads};
 
-use crate::arriving::{in_conflict, meet};
 use crate::{Arrival, Arrived, Numbers};
 use images::loading::load_table;
 use images::reading::read_image;
@@ -11,6 +10,7 @@ use refusals::Refusal;
 use table::holding::holds_table;
 
 // Whether an image is taken: one of a higher run is, and one of the standby's run where n is below its number.
+#[tactic(auto, unfolding(crate::specs::Loading::is_taken))]
 fn is_taken(numbers: Numbers, run: u32, number: u64) -> bool
     ensures { result ≡ is_taken numbers run number }
 {
@@ -24,11 +24,11 @@ pub fn take_image(mem: &mut [u8], words: &[u32], numbers: Numbers) -> Result<Arr
     if !holds_table(mem) {
         return Err(Refusal::NoTable);
     }
-    if in_conflict(numbers) {
+    if numbers.in_conflict() {
         return Err(Refusal::NoTable);
     }
     let image = read_image(words).ok_or(Refusal::MalformedImage)?;
-    let after = meet(numbers, image.run, image.number);
+    let after = numbers.meet(image.run, image.number);
     if !is_taken(after, image.run, image.number) {
         return Ok(Arrived {
             arrival: Arrival::Repeat,
@@ -40,9 +40,8 @@ pub fn take_image(mem: &mut [u8], words: &[u32], numbers: Numbers) -> Result<Arr
         arrival: Arrival::Taken,
         numbers: Numbers {
             n: image.number,
-            h: after.h,
             run: image.run,
-            highest: after.highest,
+            ..after
         },
     })
 }

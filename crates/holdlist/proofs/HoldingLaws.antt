@@ -11,9 +11,7 @@ use lib.Dec.{leb}
 use borrow.Author.Tests.{le-leb, lt-leb, leb-false}
 use Rattle.paths.specs.Copying.{Appends}
 use Rattle.table.proofs.Overwrites.{starts-inside}
-use Rattle.table.specs.declared.Action.{Action}
 use Rattle.records.specs.declared.Record.{Record}
-use Rattle.records.specs.declared.Record.TheVariants as answer
 use Rattle.records.specs.Answers.{record_answer, ReadsRecord}
 use Rattle.records.proofs.WrittenLaws.{written-first}
 use Rattle.records.proofs.FirstLaws.{same_first}
@@ -31,14 +29,14 @@ use Rattle.standby.proofs.ArrivingLaws.{Taking, lower, waits, comes, repeats, ea
 use Rattle.input.specs.Words.{words_of}
 use Rattle.input.proofs.WordLaws.{words-after, taken-words}
 use Rattle.holdlist.specs.declared.Held.{Held}
-use Rattle.holdlist.specs.Holding.{record_space, Standing, stop, after_arrival, after_record, untaken, after_next, held_from, beginning, counted, held_on, is_refused, held_arrived, standing, Holds}
+use Rattle.holdlist.specs.Holding.{record_space, Standing, stop, after_arrival, after_record, untaken, after_next, held_from, beginning, counted, held_on, held_arrived, standing, Holds}
 
 -- ---- a record that arrives
 
 -- the answer says whether an arrival is refused
 data Tells : Result Left → Type 0 where
   stops : {cause : Refusal} → Tells (Err cause)
-  leaves : {left : Left} → is_refused left.answer ≡ false → Tells (Ok left)
+  leaves : {left : Left} {a : Arrival} → left.answer ≡ Ok a → Tells (Ok left)
 
 tells-applied : (m : List ℕ) (s : Numbers) (r : Result Act) → Tells (and_then r (λ act. Ok (applies m s act)))
 unfolding and_then
@@ -56,13 +54,13 @@ tells-taken {t} {m} {s} {c} (next q k) = unfold applied in tells-applied m s (wi
 tells-arrival : (m words : List ℕ) (s : Numbers) → Tells (arrival m words s)
 tells-arrival m words s = arrival-by m words s Tells (λ cause. stops) (λ c e. tells-taken (taking (table_of m) m (met s c.run c.number) c))
 
-holds-told : {m : List ℕ} (k : ℕ) (held : Held) {m' : List ℕ} {n' : Numbers} {a : Arrival} {call : Result Left} → Tells call → Comes call m held.numbers m' n' a
+holds-told : {m : List ℕ} (k : ℕ) (held : Held) {m' : List ℕ} {n' : Numbers} {a : Result Arrival} {call : Result Left} → Tells call → Comes call m held.numbers m' n' a
     → {r : Held} → r ≡ held_arrived held k n' a → Holds (after_arrival call k (standing m held)) m' r
 unfolding left_by held_arrived after_arrival stop
 holds-told k held stops C f = rw (f, C.answer) (record { memory = C.memory; numbers = refl; words = refl; stopped = refl })
 holds-told k held (leaves e) C f = rw (f, C.answer, e) (record { memory = C.memory; numbers = C.numbers; words = refl; stopped = refl })
 
-pub holds-arrived : {m : List ℕ} (words : List ℕ) (held : Held) {m' : List ℕ} {n' : Numbers} {a : Arrival} → Arrives m words held.numbers m' n' a
+pub holds-arrived : {m : List ℕ} (words : List ℕ) (held : Held) {m' : List ℕ} {n' : Numbers} {a : Result Arrival} → Arrives m words held.numbers m' n' a
     → {r : Held} → r ≡ held_arrived held (length words) n' a → Holds (after_arrival (arrival m words held.numbers) (length words) (standing m held)) m' r
 holds-arrived {m} words held A f = holds-told (length words) held (tells-arrival m words held.numbers) A f
 
@@ -98,34 +96,37 @@ module _ (s : Standing) (bytes : List ℕ) {space words : List ℕ} {count : ℕ
   pub words_inside : count ≤ length words
   words_inside = starts-inside W
 
-  module _ {room after : List ℕ} {r : Record} (R : ReadsRecord 0 (read_first (take count words)) room r after) where
-    next-malformed : r ≡ answer.Malformed → after_next s bytes ≡ stop s
+  module _ {room after : List ℕ} {r : Option Record} (R : ReadsRecord 0 (read_first (take count words)) room r after) where
+    next-malformed : r ≡ None → after_next s bytes ≡ stop s
     unfolding record_answer after_record
     next-malformed e = go (read_first (take count words)) refl (sym R.answer ∙ e)
       where
-        go : (o : Option (Read Change)) → read_first (take count words) ≡ o → record_answer 0 o ≡ answer.Malformed → after_next s bytes ≡ stop s
+        go : (o : Option (Read Change)) → read_first (take count words) ≡ o → record_answer 0 o ≡ None → after_next s bytes ≡ stop s
         go None f g = next-by ∙ rw f
         go (Some d) f g = let z : ◌≡◌ {A = ℕ} 0 1 = cc in absurd (omega arith)
 
-    pub next-record : {run number size end : ℕ} {action : Action} → r ≡ answer.Change run number action size end → NextRecord s bytes words count end
+    pub next-record : {read : Record} → r ≡ Some read → NextRecord s bytes words count read.end
     unfolding record_answer after_record
-    next-record {run} {number} {size} {end} {action} e = go (read_first (take count words)) refl (sym e ∙ R.answer)
+    next-record {read} e = go (read_first (take count words)) refl (sym e ∙ R.answer)
       where
-        go : (o : Option (Read Change)) → read_first (take count words) ≡ o → answer.Change run number action size end ≡ record_answer 0 o
-            → NextRecord s bytes words count end
+        end_of : Option Record → ℕ
+        end_of None = 0
+        end_of (Some x) = x.end
+
+        go : (o : Option (Read Change)) → read_first (take count words) ≡ o → Some read ≡ record_answer 0 o → NextRecord s bytes words count read.end
         go None f g = let z : ◌≡◌ {A = ℕ} 0 1 = cc in absurd (omega arith)
         go (Some d) f g =
             let c = change_words d.value in
             let there = (written-first (take count words) d f).words in
-            let i : end ≡ 0 + length c = cc in
-            let few : end ≤ count = omega (arith, sym (length-take-le count words words_inside) ∙ ap length there ∙ length-append c d.rest) in
-            let whole : take end words ≡ c = sym (take-take end count words few) ∙ ap (take end) there ∙ take_at c d.rest end (omega arith) in
+            let i : read.end ≡ 0 + length c = ap end_of g in
+            let few : read.end ≤ count = omega (arith, sym (length-take-le count words words_inside) ∙ ap length there ∙ length-append c d.rest) in
+            let whole : take read.end words ≡ c = sym (take-take read.end count words few) ∙ ap (take read.end) there ∙ take_at c d.rest read.end (omega arith) in
             record { inside = few; few = omega (arith, words_inside); after = next-by ∙ rw (f, whole) }
 
 -- reading stops where it is
-pub holds-malformed : (held : Held) (bytes : List ℕ) {m space words : List ℕ} {count : ℕ} {room after : List ℕ} {r : Record} {q : Held}
+pub holds-malformed : (held : Held) (bytes : List ℕ) {m space words : List ℕ} {count : ℕ} {room after : List ℕ} {r : Option Record} {q : Held}
     → Appends (take record_space (words_of (untaken (standing m held) bytes))) space 0 words count → ReadsRecord 0 (read_first (take count words)) room r after
-    → r ≡ answer.Malformed → q ≡ record { numbers = held.numbers; words = held.words; stopped = true }
+    → r ≡ None → q ≡ record { numbers = held.numbers; words = held.words; stopped = true }
     → Holds (after_next (standing m held) bytes) m q
 unfolding stop
 holds-malformed held bytes {m} W R e f =

@@ -6,12 +6,10 @@ use mathlib.Core.Bool.{false}
 use native.Mathlib.Omega.{arith}
 use lib.ListN.{length, take}
 use lib.Seq.{length-take-le}
-use Rattle.input.specs.declared.Came.{Came}
-use Rattle.input.specs.declared.Came.TheVariants as came
+use Rattle.std.specs.Prelude.{Result, Ok}
 use Rattle.input.specs.Parts.{buffer_bytes, ReadsAfter, KeepsRest}
 use Rattle.input.proofs.PartLaws.{Buffered, buffered-start, buffered-kept, new_bytes, came-inside, joined, buffered-next}
 use Rattle.holdlist.specs.declared.Held.{Held}
-use Rattle.holdlist.specs.declared.Input.TheVariants as answer
 use Rattle.holdlist.specs.Holding.{Standing, untaken, held_from, unnumbered, kept_bytes, beginning, held, counted, held_on, standing, Holds}
 use Rattle.holdlist.specs.Input.{HoldsInput, all}
 use Rattle.holdlist.proofs.HoldingLaws.{holds_as, holds-is, held-inside, on-by}
@@ -33,10 +31,10 @@ pub record Part (first memory buffer : List ℕ) (r : Held) (left turns : ℕ) :
   pub buffered : Buffered input buffer (4 * r.words) left turns
   pub same : length memory ≡ length first
 
-pub part-start : (m buffer : List ℕ) (turns : ℕ) → buffer_bytes * turns ≤ 2 ^ 64 → length buffer ≡ buffer_bytes
-    → Part m m buffer (record { numbers = unnumbered; words = 0; stopped = false }) 0 turns
+pub part-start : (m buffer : List ℕ) → length buffer ≡ buffer_bytes
+    → Part m m buffer (record { numbers = unnumbered; words = 0; stopped = false }) 0 0
 unfolding held_from
-part-start m buffer turns h l = record { input = []; so_far = refl; buffered = buffered-start buffer turns h l; same = refl }
+part-start m buffer l = record { input = []; so_far = refl; buffered = buffered-start buffer l; same = refl }
 
 module _ {first m buffer : List ℕ} {r : Held} {left turns : ℕ} (P : Part first m buffer r left turns) where
   -- the input so far with more after it
@@ -50,7 +48,7 @@ module _ {first m buffer : List ℕ} {r : Held} {left turns : ℕ} (P : Part fir
   part-kept k l = record { input = P.input; so_far = P.so_far; buffered = buffered-kept P.buffered k l; same = P.same }
 
   -- at the input's end
-  pub part_end : {m' : List ℕ} {q : Held} → Holds (held_on 0 (standing m r) (take left buffer)) m' q → HoldsInput first m' (answer.Held q)
+  pub part_end : {E : Type 0} {m' : List ℕ} {q : Held} → Holds (held_on 0 (standing m r) (take left buffer)) m' q → HoldsInput {E} first m' (Ok q)
   part_end H =
       let whole : held_on 0 (standing m r) (take left buffer) ≡ held first unnumbered P.input =
       ap (held_on 0 (standing m r)) (P.buffered.rest ∙ sym (append-nil _))
@@ -58,16 +56,16 @@ module _ {first m buffer : List ℕ} {r : Held} {left turns : ℕ} (P : Part fir
       ∙ ap (λ (l : List ℕ). held first unnumbered l) (append-nil P.input) in
       all P.input (holds_as whole H)
 
-  module _ (e : r.stopped ≡ false) {after : List ℕ} {c : Came} (R : ReadsAfter buffer left after c) (same : length after ≡ length buffer)
-      {more : ℕ} (f : c ≡ came.Bytes more) {m' : List ℕ} {q : Held} (H : Holds (held_on kept_bytes (standing m r) (take (left + more) after)) m' q) where
+  module _ (e : r.stopped ≡ false) {after : List ℕ} {E : Type 0} {c : Result ℕ E} (R : ReadsAfter buffer left after c) (same : length after ≡ length buffer)
+      {more : ℕ} (f : c ≡ Ok more) {m' : List ℕ} {q : Held} (H : Holds (held_on kept_bytes (standing m r) (take (left + more) after)) m' q) where
     pub taken-inside : (r.words ≤ q.words) × (4 * (q.words - r.words) ≤ left + more)
     taken-inside =
         let w = on-words kept_bytes (take (left + more) after) m r e H in
         (w.0, omega (arith, w.1, length-take-le (left + more) after (came-inside P.buffered R same f)))
 
     pub part-next : {buffer' : List ℕ} {taken left' : ℕ} → length m' ≡ length m → KeepsRest after (left + more) taken buffer' left'
-        → length buffer' ≡ length after → taken ≡ 4 * (q.words - r.words) → 0 < turns → Part first m' buffer' q left' (turns - 1)
-    part-next {taken = taken} l K k g t =
+        → length buffer' ≡ length after → taken ≡ 4 * (q.words - r.words) → Part first m' buffer' q left' (turns + 1)
+    part-next {taken = taken} l K k g =
         let B = P.buffered in
         let w = taken-inside in
         record {
@@ -76,6 +74,6 @@ module _ {first m buffer : List ℕ} {r : Held} {left turns : ℕ} (P : Part fir
               with_part kept_bytes (omega arith) (new_bytes after left more)
               ∙ ap (held_on kept_bytes (standing m r)) (sym (joined B R same f))
               ∙ sym (holds-is H);
-          buffered = buffered-next B R same f taken (4 * q.words) (omega arith) (omega arith) K k t;
+          buffered = buffered-next B R same f taken (4 * q.words) (omega arith) (omega arith) K k;
           same = l ∙ P.same;
         }

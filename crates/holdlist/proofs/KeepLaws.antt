@@ -6,8 +6,8 @@ use mathlib.Core.List.{List}
 use mathlib.Core.Bool.{Bool, true, false}
 use native.Mathlib.Omega.{arith}
 use lib.ListN.{length}
+use Rattle.std.specs.declared.result.Result as result
 use Rattle.refusals.specs.Refusals.{Result}
-use Rattle.table.specs.declared.Outcome.{Outcome}
 use Rattle.table.specs.Tables.{fresh}
 use Rattle.table.specs.Memory.{table_bytes, holds}
 use Rattle.table.specs.Calls.{MakesFresh}
@@ -20,8 +20,6 @@ use Rattle.standby.proofs.ArrivingLaws.{Agrees}
 use Rattle.standby.proofs.KeepLaws.{Kept, arrival-kept}
 use Rattle.input.specs.Words.{words_of}
 use Rattle.holdlist.specs.declared.Held.{Held}
-use Rattle.holdlist.specs.declared.Input.{Input}
-use Rattle.holdlist.specs.declared.Input.TheVariants as answer
 use Rattle.holdlist.specs.Holding.{Standing, stop, after_arrival, after_record, untaken, after_next, held_from, unnumbered, beginning, standing}
 use Rattle.holdlist.specs.Input.{HoldsInput, unreadable, all}
 use Rattle.holdlist.proofs.HoldingLaws.{holds-is, rests, held-still, held-step}
@@ -58,7 +56,7 @@ after-held keep (suc turns) s input S = go (rests keep s input) refl (after-held
     go false e i = rw (held-step keep s input turns e) i
 
 -- a fresh table, and what the input makes of it
-pub input-kept : {m m₁ m₂ : List ℕ} {made : Outcome} {r : Input} {held : Held} → table_bytes ≤ length m → MakesFresh m m₁ made → HoldsInput m₁ m₂ r → r ≡ answer.Held held
+pub input-kept : {m m₁ m₂ : List ℕ} {made : Result Unit} {E : Type 0} {r : result.Result Held E} {held : Held} → table_bytes ≤ length m → MakesFresh m m₁ made → HoldsInput m₁ m₂ r → r ≡ Ok held
     → Sound (standing m₂ held)
 input-kept l F unreadable e = let z : ◌≡◌ {A = ℕ} 0 1 = cc in absurd (omega arith)
 input-kept {m} {m₁} {held = held} l F (all {r = r} input H) e =

@@ -5,7 +5,6 @@ use mathlib.Core.List.{List, [], ◌∷◌, ◌++◌, append-nil, append_assoc}
 use mathlib.Core.Bool.{Bool, true, false, cond}
 use native.Mathlib.Omega.{arith}
 use lib.ListN.{length, length-append}
-use Rattle.refusals.specs.declared.Refusal.{Refusal}
 use Rattle.paths.specs.Copying.{Appends}
 use Rattle.table.specs.declared.Kind.{Kind}
 use Rattle.table.specs.declared.Cursor.{Cursor}
@@ -18,11 +17,7 @@ use Rattle.table.proofs.TableLaws.{valid-parts}
 use Rattle.table.proofs.Puts.{valid-of}
 use Rattle.table.proofs.ReadingLaws.{first-in, first-from, from-entry, from_end, next-in}
 use Rattle.standby.specs.declared.Numbers.{Numbers}
-use Rattle.standby.specs.declared.Owed.{Owed}
-use Rattle.standby.specs.declared.Owed.TheVariants.{Changes, Refused}
-use Rattle.standby.specs.Arriving.{conflict}
-use Rattle.standby.specs.Owing.{owed_of, Owes}
-use Rattle.standby.proofs.OwingLaws.{owing-exact}
+use Rattle.standby.specs.Owing.{owed_of}
 use Rattle.text.specs.Text.{newline, labelled, kind_letter}
 use Rattle.text.specs.Escaping.{escaped_bytes, escaped}
 use Rattle.text.proofs.EscapeLaws.{escaped-long}
@@ -40,19 +35,6 @@ use Rattle.holdlist.specs.Lines.{
   stopped_line,
   listing,
 }
-
--- ---- what is owed
-
--- the report says how much, and is not refused
-module _ (s : Numbers) (good : conflict s ≡ false) {owed : Owed} (O : Owes s owed) where
-  pub owed-count : {k : ℕ} → owed ≡ Changes k → k ≡ owed_of s
-  owed-count {k} e = let told : Changes k ≡ Changes (owed_of s) = sym e ∙ O ∙ sym (owing-exact s good refl) in cc
-
-  pub owed-unrefused : {cause : Refusal} → owed ≡ Refused cause → ⊥
-  owed-unrefused {cause} e =
-      let told : Refused cause ≡ Changes (owed_of s) = sym e ∙ O ∙ sym (owing-exact s good refl) in
-      let z : ◌≡◌ {A = ℕ} 0 1 = cc in
-      omega arith
 
 -- ---- the header
 

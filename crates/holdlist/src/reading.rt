@@ -23,6 +23,7 @@ fn stop(held: Held) -> Held
 }
 
 // What is held after an arrival of `count` words: one that is refused ends reading.
+#[tactic(auto, unfolding(crate::specs::Holding::held_arrived))]
 fn hold_arrived(
     held: Held,
     count: usize,

@@ -27,16 +27,16 @@ moved l len taken left h s e =
 
 -- ---- part by part
 
--- the buffer's first `left` bytes are what is left of the input so far after its first `taken`, and so many turns may follow
+-- the buffer's first `left` bytes are what is left of the input so far after its first `taken`, which so many turns brought
 pub record Buffered (input buffer : List ℕ) (taken left turns : ℕ) : Type 0 where
   pub rest : take left buffer ≡ drop taken input
   pub within : taken ≤ length input
   pub inside : left ≤ length buffer
   pub room : length buffer ≡ buffer_bytes
-  pub few : taken + buffer_bytes * turns ≤ 2 ^ 64
+  pub few : taken ≤ buffer_bytes * turns
 
-pub buffered-start : (buffer : List ℕ) (turns : ℕ) → buffer_bytes * turns ≤ 2 ^ 64 → length buffer ≡ buffer_bytes → Buffered [] buffer 0 0 turns
-buffered-start buffer turns h l = record { rest = refl; within = omega arith; inside = omega arith; room = l; few = omega arith }
+pub buffered-start : (buffer : List ℕ) → length buffer ≡ buffer_bytes → Buffered [] buffer 0 0 0
+buffered-start buffer l = record { rest = refl; within = omega arith; inside = omega arith; room = l; few = omega arith }
 
 -- the bytes that came after the first `left`
 abbrev pub new_bytes : List ℕ → ℕ → ℕ → List ℕ
@@ -59,9 +59,9 @@ module _ {input buffer : List ℕ} {taken left turns : ℕ} (B : Buffered input 
 
     -- the input so far with them, once `some` of the buffer's bytes are taken
     pub buffered-next : {buffer' : List ℕ} {left' : ℕ} (some taken' : ℕ) → taken' ≡ taken + some → some ≤ left + more
-        → KeepsRest after (left + more) some buffer' left' → length buffer' ≡ length after → 0 < turns
-        → Buffered (input ++ new_bytes after left more) buffer' taken' left' (turns - 1)
-    buffered-next some taken' e h K l t =
+        → KeepsRest after (left + more) some buffer' left' → length buffer' ≡ length after
+        → Buffered (input ++ new_bytes after left more) buffer' taken' left' (turns + 1)
+    buffered-next some taken' e h K l =
         let new = new_bytes after left more in
         let all : length input - taken + length new ≡ left + more =
         omega (

@@ -1,18 +1,30 @@
--- A path's words by their places, the bytes of words by theirs, and what reading a path's words comes to.
+-- A path's words three bytes at a time, the bytes of words, and what reading a path's words comes to.
 use Rattle.std.specs.Prelude.{Option, None, Some}
-use Prim.Native.Nat.{ℕ, zero, suc, ◌+◌, ◌*◌, ◌≤◌, ◌<◌}
+use Rattle.std.specs.List.{zip, list_all, enumerate_from}
+use Rattle.std.specs.Slice.Iter.{chunks_rest, chunks_size, chunks_steps}
+use Rattle.std.specs.declared.slice.Chunks.{Chunks}
+use Rattle.std.proofs.lemmas.Iterator.{YieldsList}
+use Rattle.std.proofs.lemmas.Iterator.Splits.{YieldsList-from_shown_while}
+use Rattle.std.proofs.lemmas.List.{get_or-map, length-map}
+use Rattle.std.proofs.lemmas.List.FromFn.{get_or-enumerate_from, length-enumerate_from}
+use Rattle.std.proofs.lemmas.Slice.{put_mid-paste}
+use borrow.Rule.Slice.PartMut.{put_mid}
+use Prim.Native.Nat.{ℕ, ◌+◌, ◌*◌, ◌≤◌, ◌<◌, min}
 use mathlib.Core.Path.{◌≡◌, refl, sym, ap, ◌∙◌}
-use mathlib.Core.List.{List, [], ◌∷◌, ◌++◌}
-use mathlib.Core.Bool.{Bool, true, false, false≢true}
+use mathlib.Core.List.{List, [], ◌∷◌, ◌++◌, map}
+use mathlib.Core.Bool.{true, false, false≢true}
 use native.Mathlib.Nat.{zero-add}
 use native.Mathlib.Omega.{arith}
-use native.Mathlib.Numerals.{add-one, unary_clauses}
-use lib.ListN.{length, get_or, take, drop, set, take-append-drop, length-append, length-drop}
-use lib.Seq.{paste, take-suc, take_at, take_all, length-take-le, get_or-take, get_or-drop}
+use native.Mathlib.Numerals.{add-one}
+use lib.Dec.{eqb}
+use lib.ListN.{length, get_or, take, drop, take-append-drop, length-append}
+use lib.Seq.{take-suc, take_at, length-take-le}
 use Rattle.paths.specs.Components.{Bytes, same}
+use Rattle.paths.specs.Copying.{overwrite}
 use Rattle.paths.proofs.ComponentLaws.{same_refl, same-eq}
 use Rattle.paths.proofs.ByteLaws.{bytes-none, bytes-cons, bytes-head, bytes-tail, bytes_take}
-use Rattle.paths.proofs.CopyLaws.{paste_more}
+use Rattle.paths.proofs.CopyLaws.{paste-whole}
+use Rattle.table.proofs.Overwrites.{over-above}
 use Rattle.records.specs.Records.{Read, first, second, third, path_word, path_words, bytes_from}
 use Rattle.records.specs.Steps.{words_for, word_bytes}
 use Rattle.records.proofs.RecordLaws.{
@@ -24,66 +36,105 @@ use Rattle.records.proofs.RecordLaws.{
 }
 use Rattle.records.proofs.WrittenLaws.{bytes_read}
 
--- ---- by places
+-- ---- a path in pieces of three bytes, the last of which may be shorter
 
--- the word at place k has the bytes 3k to 3k + 2, or 0 for those that the path does not have
-pub word-at : (p : List ℕ) (k : ℕ) → k < length (path_words p)
-    → get_or (path_words p) k 0 ≡ path_word (get_or p (3 * k) 0) (get_or p (3 * k + 1) 0) (get_or p (3 * k + 2) 0)
-unfolding path_words
-word-at [] k h = absurd (omega arith)
-word-at (a ∷ []) zero h = refl
-word-at (a ∷ []) (suc k) h = absurd (omega arith)
-word-at (a ∷ b ∷ []) zero h = refl
-word-at (a ∷ b ∷ []) (suc k) h = absurd (omega arith)
-word-at (a ∷ b ∷ c ∷ p) zero h = refl
-word-at (a ∷ b ∷ c ∷ p) (suc k) h = simp unary_clauses (simp unary_clauses at (word-at p k (omega arith)))
+unfoldable pub pieces : List ℕ → List (List ℕ)
+pieces [] = []
+pieces (a ∷ []) = (a ∷ []) ∷ []
+pieces (a ∷ b ∷ []) = (a ∷ b ∷ []) ∷ []
+pieces (a ∷ b ∷ c ∷ p) = (a ∷ b ∷ c ∷ []) ∷ pieces p
 
-pub first-at : (ws : List ℕ) (k : ℕ) → first (get_or ws k 0) ≡ get_or (word_bytes ws) (3 * k) 0
-unfolding word_bytes
-first-at [] k = refl
-first-at (w ∷ ws) zero = refl
-first-at (w ∷ ws) (suc k) = simp unary_clauses (first-at ws k)
+abbrev pub piece-word : List ℕ → ℕ
+piece-word q = path_word (get_or q 0 0) (get_or q 1 0) (get_or q 2 0)
 
-pub second_at : (ws : List ℕ) (k : ℕ) → second (get_or ws k 0) ≡ get_or (word_bytes ws) (3 * k + 1) 0
-unfolding word_bytes
-second_at [] k = refl
-second_at (w ∷ ws) zero = refl
-second_at (w ∷ ws) (suc k) = simp unary_clauses (simp unary_clauses at (second_at ws k))
+pub piece-words : (p : List ℕ) → map piece-word (pieces p) ≡ path_words p
+unfolding pieces path_words
+piece-words [] = refl
+piece-words (a ∷ []) = refl
+piece-words (a ∷ b ∷ []) = refl
+piece-words (a ∷ b ∷ c ∷ p) = ap (λ (l : List ℕ). path_word a b c ∷ l) (piece-words p)
 
-pub third_at : (ws : List ℕ) (k : ℕ) → third (get_or ws k 0) ≡ get_or (word_bytes ws) (3 * k + 2) 0
-unfolding word_bytes
-third_at [] k = refl
-third_at (w ∷ ws) zero = refl
-third_at (w ∷ ws) (suc k) = simp unary_clauses (simp unary_clauses at (third_at ws k))
+no-rest : (rest : List ℕ) → length rest ≡ 0 → rest ≡ []
+no-rest [] e = refl
+no-rest (a ∷ rest) e = absurd (omega arith)
+
+first-piece : (q rest : List ℕ) → length q ≡ min 3 (length (q ++ rest)) → 0 < length (q ++ rest) → pieces (q ++ rest) ≡ q ∷ pieces rest
+unfolding pieces
+first-piece [] rest e h = absurd (omega arith)
+first-piece (a ∷ []) rest e h = rw (no-rest rest (omega arith))
+first-piece (a ∷ b ∷ []) rest e h = rw (no-rest rest (omega arith))
+first-piece (a ∷ b ∷ c ∷ []) rest e h = refl
+first-piece (a ∷ b ∷ c ∷ d ∷ q) rest e h = absurd (omega arith)
+
+-- chunks of three bytes are its pieces
+pub chunks-pieces : {s : Chunks ℕ} (p : List ℕ) → chunks_rest s ≡ p → chunks_size s ≡ 3 → YieldsList (chunks_steps {A = ℕ}) (λ y. y.now) s (pieces p)
+unfolding pieces
+chunks-pieces {s} p e three =
+    rw (← e)
+    (YieldsList-from_shown_while (chunks_steps {A = ℕ}) (λ y. y.now) (λ t. pieces (chunks_rest t)) (λ t. chunks_size t ≡ 3)
+    (λ t u three none. rw (no-rest (chunks_rest t) none.1.0))
+    (λ t q u three some. (
+      some.0 ∙ three,
+      rw some.1.0 (first-piece q.now (chunks_rest u) (rw (three, some.1.0) at some.1.1) (rw some.1.0 at some.1.2)),
+    ))
+    s three)
+
+-- words that are those of the pieces, one by one
+each-same : (ws : List ℕ) (qs : List (List ℕ)) → length ws ≡ length qs → list_all (λ (x : ℕ × List ℕ). eqb x.0 (piece-word x.1)) (zip ws qs) ≡ same ws (map piece-word qs)
+unfolding same
+each-same [] [] e = refl
+each-same [] (q ∷ qs) e = absurd (omega arith)
+each-same (w ∷ ws) [] e = absurd (omega arith)
+each-same (w ∷ ws) (q ∷ qs) e = rw (each-same ws qs (omega arith))
+
+piece-count : (p : List ℕ) → length (pieces p) ≡ length (path_words p)
+piece-count p = sym (length-map (pieces p) piece-word) ∙ ap length (piece-words p)
+
+pub words-same : (ws p : List ℕ) → length ws ≡ words_for (length p)
+    → list_all (λ (x : ℕ × List ℕ). eqb x.0 (piece-word x.1)) (zip ws (pieces p)) ≡ same ws (path_words p)
+words-same ws p e = each-same ws (pieces p) (omega (arith, piece-count p, path-count p)) ∙ ap (same ws) (piece-words p)
+
+-- the piece at a place, with its place
+pub piece-at : (p : List ℕ) (n k : ℕ) (q : List ℕ) → n < length (enumerate_from 0 (pieces p)) → (k, q) ≡ get_or (enumerate_from 0 (pieces p)) n (k, q)
+    → (k ≡ n) × (n < length (path_words p)) × (piece-word q ≡ get_or (path_words p) k 0)
+piece-at p n k q h e =
+    let here : n < length (pieces p) = omega (arith, length-enumerate_from 0 (pieces p)) in
+    let both = e ∙ get_or-enumerate_from 0 (pieces p) n (k, q) here in
+    let place : k ≡ n = omega (arith, ap (λ (x : ℕ × List ℕ). x.0) both) in (
+      place,
+      omega (arith, piece-count p),
+      ap piece-word (ap (λ (x : ℕ × List ℕ). x.1) both) ∙ sym (get_or-map piece-word (pieces p) n q 0 here)
+          ∙ (λ i. get_or (piece-words p i) (sym place i) 0),
+    )
+
+pub piece-places : (p : List ℕ) → length (enumerate_from 0 (pieces p)) ≡ length (path_words p)
+piece-places p = length-enumerate_from 0 (pieces p) ∙ piece-count p
+
+-- ---- the bytes of words
 
 pub bytes_count : (ws : List ℕ) → length (word_bytes ws) ≡ 3 * length ws
 unfolding word_bytes
 bytes_count [] = refl
 bytes_count (w ∷ ws) = omega (arith, bytes_count ws)
 
-module _ (ws : List ℕ) (at n : ℕ) where
-  pub length-take-drop : at + n ≤ length ws → length (take n (drop at ws)) ≡ n
-  length-take-drop h = length-take-le n (drop at ws) (simp length-drop (omega arith))
+bytes-append : (ws : List ℕ) (w : ℕ) → word_bytes (ws ++ (w ∷ [])) ≡ word_bytes ws ++ (first w ∷ second w ∷ third w ∷ [])
+unfolding word_bytes
+bytes-append [] w = refl
+bytes-append (v ∷ ws) w = ap (λ (l : List ℕ). first v ∷ second v ∷ third v ∷ l) (bytes-append ws w)
 
-  pub word-here : (k : ℕ) → k < n → get_or ws (at + k) 0 ≡ get_or (take n (drop at ws)) k 0
-  word-here k h = sym (get_or-take n (drop at ws) k 0 h ∙ get_or-drop at ws k 0)
+pub put-over : (m : List ℕ) (at n : ℕ) (s : List ℕ) → n ≡ length s → put_mid at n m s ≡ overwrite m at s
+put-over m at n s e = put_mid-paste at n m s s (length s) refl (sym e) refl ∙ paste-whole m at s
 
--- ---- three bytes more
-
-paste-next : (m s : List ℕ) (i v : ℕ) → i < length m → i < length s → v ≡ get_or s i 0 → set (paste m 0 s i) i v ≡ paste m 0 s (i + 1)
-paste-next m s i v hm hs e = rw e (simp zero-add (simp zero-add at (paste_more m 0 s i (omega arith) hs)))
-
-pub paste-three : (m s : List ℕ) (k a b c : ℕ) → 3 * k + 3 ≤ length m → 3 * k + 3 ≤ length s
-    → a ≡ get_or s (3 * k) 0 → b ≡ get_or s (3 * k + 1) 0 → c ≡ get_or s (3 * k + 2) 0
-    → set (set (set (paste m 0 s (3 * k)) (3 * k) a) (3 * k + 1) b) (3 * k + 2) c ≡ paste m 0 s (3 * (k + 1))
-paste-three m s k a b c hm hs ea eb ec =
-    let two : 3 * k + 1 + 1 ≡ 3 * k + 2 = omega arith in
-    let three : 3 * k + 2 + 1 ≡ 3 * (k + 1) = omega arith in
-    ap (λ (l : List ℕ). set (set l (3 * k + 1) b) (3 * k + 2) c) (paste-next m s (3 * k) a (omega arith) (omega arith) ea)
-    ∙ ap (λ (l : List ℕ). set l (3 * k + 2) c) (paste-next m s (3 * k + 1) b (omega arith) (omega arith) eb)
-    ∙ ap (λ (i : ℕ). set (paste m 0 s i) (3 * k + 2) c) two
-    ∙ paste-next m s (3 * k + 2) c (omega arith) (omega arith) ec
-    ∙ ap (paste m 0 s) three
+-- the bytes of one word more
+pub bytes-more : (m work ws new : List ℕ) (k n : ℕ) → work ≡ overwrite m 0 (word_bytes (take k ws)) → k < length ws → 3 * length ws ≤ length m → n ≡ 3
+    → new ≡ first (get_or ws k 0) ∷ second (get_or ws k 0) ∷ third (get_or ws k 0) ∷ [] → put_mid (3 * k) n work new ≡ overwrite m 0 (word_bytes (take (k + 1) ws))
+bytes-more m work ws new k n so_far h long three e =
+    let s = word_bytes (take k ws) in
+    let few : length (take k ws) ≡ k = length-take-le k ws (omega arith) in
+    let end : length s ≡ 3 * k = omega (arith, bytes_count (take k ws), few) in
+    put-over work (3 * k) n new (three ∙ sym (ap length e))
+    ∙ rw (so_far, e, ← end, ← zero-add (length s)) (over-above m 0 s _ (omega arith))
+    ∙ ap (λ (l : List ℕ). overwrite m 0 l) (sym (bytes-append (take k ws) (get_or ws k 0)) ∙ ap word_bytes (rw add-one (sym (take-suc ws k 0 h))))
 
 -- ---- bytes
 
@@ -162,21 +213,3 @@ module _ (n : ℕ) (ws : List ℕ) where
         ap (bytes_from n) whole
         ∙ ap (λ (k : ℕ). bytes_from k (path_words p ++ drop (words_for n) ws)) (sym spelled-length)
         ∙ path-back p (drop (words_for n) ws) (bytes_take n _ (spelled-bytes _))
-
--- ---- the same words up to a place
-
-pub take_more : (a b : List ℕ) (k : ℕ) → k < length a → k < length b → take k a ≡ take k b → get_or a k 0 ≡ get_or b k 0 → take (k + 1) a ≡ take (k + 1) b
-take_more a b k ha hb e f = rw (add-one k) (take-suc a k 0 ha ∙ (λ i. e i ++ (f i ∷ [])) ∙ sym (take-suc b k 0 hb))
-
-not_same : (b : Bool) → (b ≡ true → ⊥) → false ≡ b
-not_same true h = absurd (h refl)
-not_same false h = refl
-
-other_at : (a b : List ℕ) (k : ℕ) → (get_or a k 0 ≡ get_or b k 0 → ⊥) → false ≡ same a b
-other_at a b k h = not_same (same a b) (λ e. h (ap (λ (l : List ℕ). get_or l k 0) (same-eq a b e)))
-
-pub differs : (ws : List ℕ) (at n : ℕ) (b : List ℕ) (k : ℕ) → k < n → (get_or ws (at + k) 0 ≡ get_or b k 0 → ⊥) → false ≡ same (take n (drop at ws)) b
-differs ws at n b k h f = other_at (take n (drop at ws)) b k (λ e. f (word-here ws at n k h ∙ e))
-
-pub agrees : (a b : List ℕ) (n : ℕ) → length b ≤ n → take n a ≡ take n b → true ≡ same (take n a) b
-agrees a b n h e = rw (e ∙ take_all n b h) (sym (same_refl b))

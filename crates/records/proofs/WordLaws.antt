@@ -1,4 +1,5 @@
 -- Laws of words one after another: what stands at a place, and what the front of a record says of its words.
+use Rattle.std.specs.Prelude.{Option, None, Some}
 use Prim.Native.Nat.{ℕ, ◌+◌, ◌-◌, ◌≤◌, ◌<◌}
 use mathlib.Core.Path.{◌≡◌, refl, sym, ap, ◌∙◌}
 use mathlib.Core.List.{List, [], ◌∷◌}
@@ -7,8 +8,6 @@ use native.Mathlib.Omega.{arith}
 use native.Mathlib.Numerals.{add-one}
 use lib.ListN.{length, get_or, drop, drop_of_length-le, length-drop}
 use lib.Seq.{drop-cons, drop-drop}
-use Rattle.records.specs.declared.words.Word.{Word}
-use Rattle.records.specs.declared.words.Word.TheVariants.{Is, End}
 use Rattle.records.specs.declared.words.WordRead.{WordRead}
 use Rattle.records.specs.declared.words.Front.{Front}
 use Rattle.records.specs.Records.{low_of_word, is_run_word}
@@ -20,25 +19,25 @@ pub from_place : (ws : List ℕ) (at : ℕ) → at < length ws → drop at ws �
 from_place ws at h = rw (add-one at) (drop-cons ws at 0 h)
 
 module _ (ws : List ℕ) (at : ℕ) where
-  pub read_word : at < length ws → ◌≡◌ {A = WordRead} (record { word = Is (get_or ws at 0); at = at + 1 }) (read_at ws at)
+  pub read_word : {w : ℕ} → at < length ws → w ≡ get_or ws at 0 → ◌≡◌ {A = WordRead} (record { word = Some w; at = at + 1 }) (read_at ws at)
   unfolding first_word behind_first
-  read_word h = rw (from_place ws at h)
+  read_word h e = rw (from_place ws at h, e)
 
-  pub read-end : length ws ≤ at → ◌≡◌ {A = WordRead} (record { word = End; at = at }) (read_at ws at)
+  pub read-end : length ws ≤ at → ◌≡◌ {A = WordRead} (record { word = None; at = at }) (read_at ws at)
   unfolding first_word behind_first
   read-end h = rw (drop_of_length-le ws h)
 
 -- ---- a front
 
-pub no_word : (l : List ℕ) → first_word l ≡ End → l ≡ []
+pub no_word : (l : List ℕ) → first_word l ≡ None → l ≡ []
 unfolding first_word
 no_word [] e = refl
-no_word (a ∷ l) e = let z : ◌≡◌ {A = ℕ} 0 1 = cc e in absurd (omega arith)
+no_word (a ∷ l) e = cc
 
-first-is : (l : List ℕ) {w : ℕ} → first_word l ≡ Is w → l ≡ w ∷ drop 1 l
+first-is : (l : List ℕ) {w : ℕ} → first_word l ≡ Some w → l ≡ w ∷ drop 1 l
 unfolding first_word
-first-is [] e = let z : ◌≡◌ {A = ℕ} 0 1 = cc e in absurd (omega arith)
-first-is (a ∷ l) {w} e = let same : a ≡ w = cc e in ap (λ (b : ℕ). b ∷ l) same
+first-is [] e = cc
+first-is (a ∷ l) {w} e = let same : a ≡ w = cc in ap (λ (b : ℕ). b ∷ l) same
 
 -- a word w stands at a place: the words from there on begin with it, and a reader goes on at `behind`
 pub record Stands (ws : List ℕ) (at w behind : ℕ) : Type 0 where
@@ -46,7 +45,7 @@ pub record Stands (ws : List ℕ) (at w behind : ℕ) : Type 0 where
   pub words : drop at ws ≡ w ∷ drop (at + 1) ws
   pub next : behind ≡ at + 1
 
-pub stands : (ws : List ℕ) (at : ℕ) {w behind : ℕ} → first_word (drop at ws) ≡ Is w → behind ≡ behind_first (drop at ws) at → Stands ws at w behind
+pub stands : (ws : List ℕ) (at : ℕ) {w behind : ℕ} → first_word (drop at ws) ≡ Some w → behind ≡ behind_first (drop at ws) at → Stands ws at w behind
 unfolding behind_first
 stands ws at {w} e b =
     let is = first-is (drop at ws) e in
@@ -57,20 +56,20 @@ stands ws at {w} e b =
     }
 
 -- a word that says a run
-pub record OfRun (word : Word) (run : ℕ) : Type 0 where
+pub record OfRun (word : Option ℕ) (run : ℕ) : Type 0 where
   pub value : ℕ
-  pub is : word ≡ Is value
+  pub is : word ≡ Some value
   pub right : is_run_word value ≡ true
   pub low : run ≡ low_of_word value
 
-pub of-run : (word : Word) {run : ℕ} → run ≡ run_of word → (run ≡ 0 → ⊥) → OfRun word run
+pub of-run : (word : Option ℕ) {run : ℕ} → Some run ≡ run_of word → OfRun word run
 unfolding run_of
-of-run End e h = absurd (h e)
-of-run (Is w) {run} e h = go (is_run_word w) refl e
+of-run None e = cc
+of-run (Some w) {run} e = go (is_run_word w) refl e
   where
-    go : (b : Bool) → is_run_word w ≡ b → run ≡ cond b (low_of_word w) 0 → OfRun (Is w) run
-    go true q f = record { value = w; is = refl; right = q; low = f }
-    go false q f = absurd (h f)
+    go : (b : Bool) → is_run_word w ≡ b → Some run ≡ cond b (Some (low_of_word w)) None → OfRun (Some w) run
+    go true q f = record { value = w; is = refl; right = q; low = cc }
+    go false q f = cc
 
 -- a front with a run and a head w: the words from `from` on begin with the run word and with w, and the rest of the front is what stands behind them
 pub record Headed (ws : List ℕ) (from run w : ℕ) (f : Front) : Type 0 where
@@ -89,10 +88,10 @@ module _ (ws : List ℕ) (from : ℕ) {run : ℕ} {f : Front} (F : f ≡ front_a
   head-is : f.head ≡ first_word (drop (from + 1) ws)
   head-is = ap (λ (g : Front). g.head) F ∙ ap (λ (k : ℕ). first_word (drop k ws)) run-stands.next
 
-  pub run_alone : f.head ≡ End → drop from ws ≡ R.value ∷ []
+  pub run_alone : f.head ≡ None → drop from ws ≡ R.value ∷ []
   run_alone e = run-stands.words ∙ ap (λ (l : List ℕ). R.value ∷ l) (no_word (drop (from + 1) ws) (sym head-is ∙ e))
 
-  pub headed : {w : ℕ} → f.head ≡ Is w → Headed ws from run w f
+  headed : {w : ℕ} → f.head ≡ Some w → Headed ws from run w f
   headed {w} e =
       let S = stands ws (from + 1) (sym head-is ∙ e) refl in
       let two : from + 1 + 1 ≡ from + 2 = omega arith in
@@ -105,3 +104,6 @@ module _ (ws : List ℕ) (from : ℕ) {run : ℕ} {f : Front} (F : f ≡ front_a
         behind = ap (λ (g : Front). g.at) F ∙ ap (λ (k : ℕ). behind_first (drop k ws) k) step;
         left = ap (λ (g : Front). g.left) F ∙ ap (λ (g : Front). length ws - g.at) (sym F);
       }
+
+pub front-headed : (ws : List ℕ) (from : ℕ) {run w : ℕ} {f : Front} → f ≡ front_at ws from → Some run ≡ run_of f.run → f.head ≡ Some w → Headed ws from run w f
+front-headed ws from F r e = headed ws from F (of-run _ r) e

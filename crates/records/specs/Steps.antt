@@ -1,12 +1,9 @@
 -- Steps of reading a record: a length, the bytes that words hold, a path, and what a head that takes a path or switches comes to.
-use Rattle.std.specs.Prelude.{ℕ, zero, suc, ◌+◌, ◌/◌, ◌≡◌, List, [], ◌∷◌, Bool, ◌&&◌, cond, length, take, drop, Option, None, Some}
-use Rattle.paths.specs.Components.{same}
-use Rattle.paths.specs.Resolving.{is_resolved}
+use Rattle.std.specs.Prelude.{ℕ, zero, suc, ◌+◌, ◌/◌, ◌≡◌, List, [], ◌∷◌, cond, length, Option, None, Some}
 use Rattle.paths.specs.Copying.{begun}
 use Rattle.table.specs.declared.Kind.TheVariants.{G, D, P, I}
 use Rattle.table.specs.declared.Action.TheVariants.{SetSwitches}
 use Rattle.table.specs.Acts.{Act, revoke}
-use Rattle.table.specs.Carrying.{action_of}
 use Rattle.records.specs.declared.PathRead.{PathRead}
 use Rattle.records.specs.declared.Record.{Record}
 use Rattle.records.specs.Records.{Read, path_words, is_run_word, is_length, is_switches, low_of_word, insert_of, first, second, third, read_path}
@@ -33,15 +30,6 @@ length_of (Some w) = cond (is_length w) (Some (low_of_word w)) None
 unfoldable pub path_behind : Option ℕ → List ℕ → Option (Read (List ℕ))
 path_behind None ws = None
 path_behind (Some w) ws = read_path (w ∷ ws)
-
--- the words from `at` on begin with those of p, and p is in resolved form
-unfoldable pub is_path_at : List ℕ → ℕ → List ℕ → Bool
-is_path_at words at p = same (take (words_for (length p)) (drop at words)) (path_words p) && is_resolved p
-
--- p stands from the space's start if it is such a path, and else the space is as it was
-pub record HandsOver (words : List ℕ) (at : ℕ) (p space : List ℕ) (r : Bool) (after : List ℕ) : Type 0 where
-  pub answer : r ≡ is_path_at words at p
-  pub bytes : after ≡ cond r (begun p space) space
 
 -- a path whose words begin at `at`: its length, and where the words behind it begin
 unfoldable pub path_answer : ℕ → Option (Read (List ℕ)) → Option PathRead
@@ -74,12 +62,6 @@ path_act (suc (suc zero)) = insert_of D
 path_act (suc (suc (suc zero))) = insert_of I
 path_act (suc (suc (suc (suc zero)))) = insert_of P
 path_act (suc (suc (suc (suc (suc n))))) = revoke
-
--- the record of a head that takes a path, by what reading the path answered
-unfoldable pub path_record : ℕ → ℕ → ℕ → Option PathRead → Option Record
-path_record run number act None = None
-path_record run number act (Some p) =
-    Some (record { run = run; number = number; action = action_of (Some (path_act act [])); size = p.size; end = p.end })
 
 -- the record of a head that takes switches, by the word behind it, and by where the words behind that begin
 unfoldable pub switches_record : ℕ → ℕ → Option ℕ → ℕ → Option Record

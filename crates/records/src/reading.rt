@@ -1,18 +1,17 @@
 // Reading a record word after word from lent words. Words that depart from the form in anything are malformed.
-ghost use Rattle.std.specs.Prelude.{◌≡◌, List, ℕ, ◌+◌, ◌-◌, ◌*◌, ◌≤◌, length, take, drop, Some};
+ghost use Rattle.std.specs.Prelude.{◌≡◌, List, ℕ, ◌-◌, ◌*◌, ◌≤◌, length, drop, Some};
 ghost use Rattle.paths.specs.Components.{same};
 ghost use Rattle.paths.specs.Copying.{overwrite};
 ghost use Rattle.paths.specs.Resolving.{max_path};
 ghost use Rattle.table.specs.Carrying.{action_of};
 ghost use Rattle.records.specs.Records.{path_words, bytes_from, if_resolved, read_first};
 ghost use Rattle.records.specs.Answers.{ReadsRecord};
-ghost use Rattle.records.specs.Steps.{words_for, word_bytes, run_of, length_of, HandsOver, path_behind, ReadsPath, path_act, switches_record};
+ghost use Rattle.records.specs.Steps.{words_for, word_bytes, run_of, length_of, path_behind, ReadsPath, path_act, switches_record};
 
 use crate::words::read_front;
 use crate::writing::{path_word, words_for};
 use crate::{ACT_UNIT, KIND_UNIT, LENGTH, PATH_ROOM, PathRead, RUN, Record, SWITCHES};
 use paths::MAX_PATH;
-use paths::copying::copy_in;
 use paths::resolving::is_resolved;
 use table::{Action, Kind, MAX_SWITCHES};
 
@@ -34,48 +33,25 @@ fn path_length(word: Option<u32>) -> Option<usize>
     (word / KIND_UNIT == LENGTH && n >= 1 && n <= MAX_PATH).then_some(n)
 }
 
-// Takes three bytes out of each of some words, whatever their kinds.
-fn take_bytes(words: &[u32], at: usize, count: usize, work: &mut [u8])
-    requires { (at + count ≤ length words.now) × (3 * count ≤ length work.old) }
-    ensures { work.new ≡ overwrite work.old 0 (word_bytes (take count (drop at words.now))) }
+// Takes three bytes out of each word, whatever its kind.
+fn take_bytes(words: &[u32], work: &mut [u8])
+    requires { 3 * length words.now ≤ length work.old }
+    ensures { work.new ≡ overwrite work.old 0 (word_bytes words.now) }
 {
-    let mut k: usize = 0;
-    while k < count {
-        let word = words[at + k];
-        let i = 3 * k;
-        work[i] = (word / 65536 % 256) as u8;
-        work[i + 1] = (word / 256 % 256) as u8;
-        work[i + 2] = (word % 256) as u8;
-        k += 1;
+    for (k, word) in words.iter().enumerate() {
+        work[3 * k..3 * k + 3].copy_from_slice(&word.to_be_bytes()[1..]);
     }
 }
 
-// Whether the words from a place on are those that p is written as: so their kinds and their unused bytes are in order.
-fn are_words_of(words: &[u32], at: usize, p: &[u8]) -> bool
-    requires { (length p.now ≤ max_path) × (at + words_for (length p.now) ≤ length words.now) }
-    ensures { result ≡ same (take (words_for (length p.now)) (drop at words.now)) (path_words p.now) }
+// Whether words are those that p is written as: so their kinds and their unused bytes are in order.
+fn are_words_of(words: &[u32], p: &[u8]) -> bool
+    requires { length words.now ≡ words_for (length p.now) }
+    ensures { result ≡ same words.now (path_words p.now) }
 {
-    let count = words_for(p.len());
-    let mut k: usize = 0;
-    while k < count {
-        if words[at + k] != path_word(p, k) {
-            return false;
-        }
-        k += 1;
-    }
-    true
-}
-
-// Copies a path into the lent space, if the words from a place on are its own and it is in resolved form.
-fn hand_over(words: &[u32], at: usize, p: &[u8], space: &mut [u8; MAX_PATH]) -> bool
-    requires { (length p.now ≤ max_path) × (at + words_for (length p.now) ≤ length words.now) }
-    ensures { HandsOver words.now at p.now space.old result space.new }
-{
-    let own = are_words_of(words, at, p) && is_resolved(p);
-    if own {
-        copy_in(space, 0, p);
-    }
-    own
+    words
+        .iter()
+        .zip(p.chunks(3))
+        .all(|(word, bytes)| *word == path_word(bytes))
 }
 
 // Reads a path of n bytes into the lent space: its words begin at a place, behind which so many words are left. The path is put there only
@@ -94,9 +70,15 @@ pub fn read_path_of(
     if left < count {
         return None;
     }
+    let own = &words[at..at + count];
     let mut work = [0u8; PATH_ROOM];
-    take_bytes(words, at, count, &mut work);
-    hand_over(words, at, &work[..n], space).then_some(PathRead {
+    take_bytes(own, &mut work);
+    let path = &work[..n];
+    if !are_words_of(own, path) || !is_resolved(path) {
+        return None;
+    }
+    space[..n].copy_from_slice(path);
+    Some(PathRead {
         size: n,
         end: at + count,
     })

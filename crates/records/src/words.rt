@@ -31,8 +31,8 @@ pub fn read_at(words: &[u32], at: usize) -> WordRead
     ensures { result ≡ read_at words.now at }
 {
     match words.get(at) {
-        Some(word) => WordRead {
-            word: Some(*word),
+        Some(&word) => WordRead {
+            word: Some(word),
             at: at + 1,
         },
         None => WordRead { word: None, at },

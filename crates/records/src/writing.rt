@@ -4,7 +4,7 @@ ghost use Rattle.paths.specs.Copying.{Appends};
 ghost use Rattle.paths.specs.Resolving.{max_path};
 ghost use Rattle.table.specs.Carrying.{act_of, fits};
 ghost use Rattle.records.specs.Numbers.{max_run, max_number, record_space};
-ghost use Rattle.records.specs.Records.{switches_kind, kind_unit, word_of, insert_number, head_word, path_words, path_part};
+ghost use Rattle.records.specs.Records.{switches_kind, kind_unit, word_of, insert_number, head_word, path_word, path_words, path_part};
 ghost use Rattle.records.specs.Answers.{record_words};
 ghost use Rattle.records.specs.Steps.{words_for};
 
@@ -26,14 +26,11 @@ pub fn word_of(kind: u32, low: u32) -> u32
     kind * KIND_UNIT + low
 }
 
-// The byte at a place of a path, and 0 behind its end.
-fn byte_or_zero(p: &[u8], i: usize) -> u32
-    ensures { (result ≡ get_or p.now i 0) × (result < 256) }
+// The byte at a place, and 0 behind the end.
+fn byte_or_zero(bytes: &[u8], i: usize) -> u32
+    ensures { (result ≡ get_or bytes.now i 0) × (result < 256) }
 {
-    if i < p.len() {
-        return p[i] as u32;
-    }
-    0
+    bytes.get(i).map_or(0, |byte| u32::from(*byte))
 }
 
 // How many words a path of n bytes takes.
@@ -41,18 +38,16 @@ pub fn words_for(n: usize) -> usize
     requires { n ≤ max_path }
     ensures { result ≡ words_for n }
 {
-    (n + 2) / 3
+    n.div_ceil(3)
 }
 
-// A path's word at a place: three bytes, first highest, and 0 for those that the path does not have.
-pub(crate) fn path_word(p: &[u8], k: usize) -> u32
-    requires { (length p.now ≤ max_path) × (k < words_for (length p.now)) }
-    ensures { result ≡ get_or (path_words p.now) k 0 }
+// The path word of three bytes, first highest, and 0 for those that are missing.
+pub(crate) fn path_word(bytes: &[u8]) -> u32
+    ensures { result ≡ path_word (get_or bytes.now 0 0) (get_or bytes.now 1 0) (get_or bytes.now 2 0) }
 {
-    let at = 3 * k;
-    let a = byte_or_zero(p, at);
-    let b = byte_or_zero(p, at + 1);
-    let c = byte_or_zero(p, at + 2);
+    let a = byte_or_zero(bytes, 0);
+    let b = byte_or_zero(bytes, 1);
+    let c = byte_or_zero(bytes, 2);
     word_of(PATH, 65536 * a + 256 * b + c)
 }
 
@@ -61,13 +56,10 @@ pub fn write_path_words(words: &mut [u32], at: usize, p: &[u8]) -> usize
     requires { (length p.now ≤ max_path) × (at + words_for (length p.now) ≤ length words.old) }
     ensures { Appends (path_words p.now) words.old at words.new result }
 {
-    let count = words_for(p.len());
-    let mut k: usize = 0;
-    while k < count {
-        words[at + k] = path_word(p, k);
-        k += 1;
+    for (k, bytes) in p.chunks(3).enumerate() {
+        words[at + k] = path_word(bytes);
     }
-    at + count
+    at + words_for(p.len())
 }
 
 // Writes a run word and a head, and a path's length and words behind them.

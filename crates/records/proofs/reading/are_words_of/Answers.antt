@@ -1,33 +1,17 @@
-use native.Mathlib.Omega.{arith}
-use Prim.Native.Nat.{◌+◌}
-use mathlib.Core.Path.{◌≡◌, ◌∙◌}
-use lib.ListN.{length, get_or, drop, length-drop}
-use lib.Seq.{get_or-drop}
-use Rattle.records.specs.Records.{path_words}
-use Rattle.records.specs.Steps.{words_for}
-use Rattle.records.proofs.RecordLaws.{path-count}
-use Rattle.records.proofs.SpellingLaws.{take_more, differs, agrees}
+-- `are_words_of` meets its contract: each word is that of its three bytes.
+use Prim.Native.Nat.{ℕ}
+use mathlib.Core.Path.{◌∙◌}
+use mathlib.Core.List.{List}
+use lib.Dec.{eqb}
+use borrow.Author.Tests.{tests}
+use Rattle.std.proofs.Common.{rules}
+use Rattle.std.proofs.lemmas.Iterator.{YieldsList-from_slice, YieldsList-from_zip}
+use Rattle.std.proofs.lemmas.Iterator.Search.{all_from_yields_List}
+use Rattle.records.proofs.SpellingLaws.{piece-word, chunks-pieces, words-same}
 use Rattle.records.proofs.reading.are_words_of.Goals as goal
-
-pub returns-then-words-at : goal.returns-then-words-at
-returns-then-words-at c =
-    let a = c.args in
-    let k = c.loop-k.k in
-    differs a.words.now a.at (words_for (length a.p.now)) (path_words a.p.now) k (omega arith) (λ e. omega arith)
-
-pub loop-k-preserved : goal.loop-k-preserved
-loop-k-preserved c =
-    let a = c.args in
-    let n = path-count a.p.now in
-    let word : get_or a.words.now (a.at + c.loop-k.k) 0 ≡ get_or (path_words a.p.now) c.loop-k.k 0 = omega arith in (
-      omega arith,
-      take_more (drop a.at a.words.now) (path_words a.p.now) c.loop-k.k (simp length-drop (omega arith)) (omega arith) c.loop-k.invariant.1
-          (get_or-drop a.at a.words.now c.loop-k.k 0 ∙ word),
-    )
 
 pub returns : goal.returns
 returns c =
-    let a = c.args in
-    let n = path-count a.p.now in
-    let z : c.loop-k.k ≡ words_for (length a.p.now) = omega arith in
-    agrees (drop a.at a.words.now) (path_words a.p.now) (words_for (length a.p.now)) (omega arith) (rw z at c.loop-k.invariant.1)
+    all_from_yields_List (λ (x : ℕ × List ℕ). eqb x.0 (piece-word x.1)) c.all.new.self _ _ c.all.ensures.ran
+    (YieldsList-from_zip (YieldsList-from_slice c.args.words.now cc) (chunks-pieces c.args.p.now (cc) (cc))) (λ x b q k. search (rules, tests))
+    ∙ words-same c.args.words.now c.args.p.now c.requires

@@ -1,18 +1,14 @@
 -- `path_length` meets its contract, at each way out.
-use native.Mathlib.Omega.{arith}
+use Rattle.std.proofs.Common.{arith}
+use Rattle.std.proofs.lemmas.Bool.Decides.{nat_tests}
 use Rattle.records.specs.Steps.{length_of}
-use Rattle.records.proofs.ReadingLaws.{no_length, long-length, is-length}
+use Rattle.records.specs.Records.{is_length}
 use Rattle.records.proofs.reading.path_length.Goals as goal
 
-pub returns-in_default : goal.returns-in_default
+pub returns-in_err-word : goal.returns-in_err-word
 unfolding length_of
-returns-in_default c = rw c.in_default.is
-
-pub returns-then-word-ne-LENGTH : goal.returns-then-word-ne-LENGTH
-returns-then-word-ne-LENGTH c = rw c.in-Is.is (no_length _ c.if-word-ne-LENGTH.true)
-
-pub returns-then-n-gt-MAX_PATH : goal.returns-then-n-gt-MAX_PATH
-returns-then-n-gt-MAX_PATH c = rw c.in-Is.is (long-length _ (omega arith))
+returns-in_err-word c = grind arith
 
 pub returns : goal.returns
-returns c = rw c.in-Is.is (is-length _ c.if-word-ne-LENGTH.false (omega arith))
+unfolding length_of is_length
+returns c = grind (arith, nat_tests)

@@ -1,31 +1,24 @@
+use mathlib.Core.Path.{ap, ◌∙◌}
+use mathlib.Core.List.{List}
+use Prim.Native.Nat.{ℕ}
 use native.Mathlib.Omega.{arith}
-use Prim.Native.Nat.{◌*◌}
-use mathlib.Core.Path.{◌≡◌, ap, ◌∙◌}
-use lib.ListN.{length, take, drop, length-set}
-use Rattle.paths.proofs.CopyLaws.{paste-whole}
-use Rattle.records.specs.Records.{first, second, third}
+use lib.Seq.{take_all}
+use Rattle.std.proofs.Common.{rules}
+use Rattle.paths.specs.Copying.{overwrite}
 use Rattle.records.specs.Steps.{word_bytes}
-use Rattle.records.proofs.SpellingLaws.{first-at, second_at, third_at, bytes_count, paste-three, length-take-drop, word-here}
+use Rattle.records.proofs.SpellingLaws.{bytes-more}
 use Rattle.records.proofs.reading.take_bytes.Goals as goal
+
+pub loop-k-init : goal.loop-k-init
+unfolding overwrite word_bytes
+loop-k-init c = search rules
 
 pub loop-k-preserved : goal.loop-k-preserved
 loop-k-preserved c =
-    let a = c.args in
-    let k = c.loop-k.k in
-    let s = take a.count (drop a.at a.words.now) in
-    let few = length-take-drop a.words.now a.at a.count (omega arith) in
-    let word = word-here a.words.now a.at a.count k (omega arith) in (
-      omega arith,
-      rw c.loop-k.invariant.1
-          (paste-three a.work.now (word_bytes s) k _ _ _ (omega arith) (omega (arith, bytes_count s))
-          (ap first word ∙ first-at s k) (ap second word ∙ second_at s k) (ap third word ∙ third_at s k)),
-      simp length-set c.loop-k.invariant.2,
-    )
+    bytes-more c.args.work.now c.loop-k.work c.args.words.now _ c.loop-k.k _ c.loop-k.invariant c.loop-k-test.true c.requires (omega arith)
+    (rw c.to_be_bytes.ensures at c.copy_from_slice.ensures.after)
 
 pub returns : goal.returns
 returns c =
-    let a = c.args in
-    let s = take a.count (drop a.at a.words.now) in
-    let few = length-take-drop a.words.now a.at a.count (omega arith) in
-    let z : 3 * c.loop-k.k ≡ length (word_bytes s) = omega (arith, bytes_count s) in
-    c.loop-k.invariant.1 ∙ rw z (paste-whole a.work.now 0 (word_bytes s))
+    c.loop-k.invariant
+    ∙ ap (λ (l : List ℕ). overwrite c.args.work.now 0 (word_bytes l)) (take_all c.loop-k.k c.args.words.now c.loop-k-test.false)

@@ -3,3 +3,4 @@ pub mod AskLaws
 pub mod KeepLaws
 pub mod QuestionLaws
 pub mod PlainLaws
+pub mod AnswerLaws

@@ -13,7 +13,6 @@ use Rattle.table.specs.declared.Place.{Place}
 use Rattle.table.specs.declared.Place.TheVariants.{Found, At}
 use Rattle.table.specs.Entries.{Entry}
 use Rattle.table.specs.Placing.{placed_at}
-use Rattle.table.specs.declared.Outcome.{Outcome}
 use Rattle.table.specs.Tables.{Table, max_path_bytes, fresh, path_bytes, is_table}
 use Rattle.table.specs.Acts.{Act, insert, set_switches, revoke, revoke_all, inserted_by, inserted, kept_unless, without, apply_act, apply_acts}
 use Rattle.table.specs.Memory.{table_of, holds, encode_entry, encode_all, encode, put, do_act, do_acts}
@@ -102,7 +101,7 @@ pub step-bytes : {run : ℕ} {a a' : Main} {acts : List Act} {wrote : List ℕ} 
 step-bytes B h S = let W = step-advances h S in rw W.memory (acts-bytes B h refl W.recorded)
 
 -- a run that begins, or is refused
-pub begin-bytes : {m : List ℕ} {q n : ℕ} {m' : List ℕ} {n' : ℕ} {r : Outcome} → Bytes m → BeginsRun m q n m' n' r → Bytes m'
+pub begin-bytes : {m : List ℕ} {q n : ℕ} {m' : List ℕ} {n' : ℕ} {r : Result Unit} → Bytes m → BeginsRun m q n m' n' r → Bytes m'
 unfolding put_in
 begin-bytes {m} {q} B W = rw W.memory (by (begin-hands m q))
   where

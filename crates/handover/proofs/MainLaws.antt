@@ -24,7 +24,6 @@ use Rattle.refusals.specs.Refusals.{Result, cause_of}
 use Rattle.refusals.proofs.CauseLaws.{no-cause-head, Hands, stops, hands, hands_then, hands-unless}
 use Rattle.paths.specs.Components.{Bytes}
 use Rattle.paths.specs.Copying.{begun}
-use Rattle.table.specs.declared.Outcome.TheVariants as outcome
 use Rattle.table.specs.Tables.{Table, fresh}
 use Rattle.table.specs.Acts.{Act, apply_acts}
 use Rattle.table.specs.Memory.{table_bytes, table_of, holds, do_acts}
@@ -174,11 +173,11 @@ begin-hands m q =
     hands_then (hands-unless {P = Begun m} _ _ (λ e. record { is = refl; long = ltb-false _ _ (no-cause-head _ NoTable [] e) })) (λ t B.
     hands-unless _ _ (λ _. B))
 
-pub begins : {m : List ℕ} {q n : ℕ} {a : Main} → BeginsRun m q n a.memory a.number outcome.Done → MainIn a (record { number = q; acts = [] })
+pub begins : {m : List ℕ} {q n : ℕ} {a : Main} → BeginsRun m q n a.memory a.number (Ok tt) → MainIn a (record { number = q; acts = [] })
 unfolding outcome_of cause_of put_in number_in apply_acts
 begins {m} {q} {n} {a} W = by (begin-hands m q) W.outcome W.memory W.number
   where
-    by : {call : Result Table} → Hands (Begun m) call → outcome.Done ≡ outcome_of (cause_of call) → a.memory ≡ put_in call m → a.number ≡ number_in call n
+    by : {call : Result Table} → Hands (Begun m) call → Ok tt ≡ outcome_of (cause_of call) → a.memory ≡ put_in call m → a.number ≡ number_in call n
         → MainIn a (record { number = q; acts = [] })
     by stops e f g = let z : ◌≡◌ {A = ℕ} 0 1 = cc in absurd (omega arith)
     by (hands {x = t} B) e f g =
@@ -186,11 +185,11 @@ begins {m} {q} {n} {a} W = by (begin-hands m q) W.outcome W.memory W.number
         record { holding = L.holding; table = L.table; counted = g }
 
 -- one that is refused changes nothing
-refused-begin : {m : List ℕ} {q n : ℕ} {m' : List ℕ} {n' : ℕ} {cause : Refusal} → BeginsRun m q n m' n' (outcome.Refused cause) → (m' ≡ m) × (n' ≡ n)
+refused-begin : {m : List ℕ} {q n : ℕ} {m' : List ℕ} {n' : ℕ} {cause : Refusal} → BeginsRun m q n m' n' (Err cause) → (m' ≡ m) × (n' ≡ n)
 unfolding outcome_of cause_of put_in number_in
 refused-begin {m} {q} {n} {m'} {n'} {cause} W = by (begin_call m q) W.outcome W.memory W.number
   where
-    by : (call : Result Table) → outcome.Refused cause ≡ outcome_of (cause_of call) → m' ≡ put_in call m → n' ≡ number_in call n → (m' ≡ m) × (n' ≡ n)
+    by : (call : Result Table) → Err cause ≡ outcome_of (cause_of call) → m' ≡ put_in call m → n' ≡ number_in call n → (m' ≡ m) × (n' ≡ n)
     by (Err c) e f g = (f, g)
     by (Ok t) e f g = let z : ◌≡◌ {A = ℕ} 0 1 = cc in absurd (omega arith)
 

@@ -1,5 +1,5 @@
 -- What holds of the standby after any list of arrivals of what the main sent.
-use Rattle.std.specs.Prelude.{Ok}
+use Rattle.std.specs.Prelude.{Ok, Err}
 use Prim.Native.Nat.{ℕ, ◌+◌, ◌≤◌}
 use mathlib.Core.Path.{◌≡◌, refl, sym, ap, subst, ◌∙◌}
 use mathlib.Core.List.Memᴰ
@@ -26,7 +26,7 @@ use Rattle.images.specs.Images.{Image, image_words}
 use Rattle.images.proofs.ImageLaws.{image-read}
 use Rattle.standby.specs.declared.Numbers.{Numbers}
 use Rattle.standby.specs.declared.Arrival.{Arrival}
-use Rattle.standby.specs.declared.Arrival.TheVariants.{Applied, Repeat, Early, Taken, Refused}
+use Rattle.standby.specs.declared.Arrival.TheVariants.{Applied, Repeat, Early, Taken}
 use Rattle.standby.specs.Arriving.{met, Left, applied, left_by, Comes, Arrives}
 use Rattle.standby.specs.Loading.{takes, Loads}
 use Rattle.standby.proofs.ArrivingLaws.{
@@ -159,15 +159,15 @@ agrees-here s {q} {k} e f =
 -- ---- any list of arrivals
 
 -- memory and numbers of the standby, what is judged from the arrivals, and what arrived
-pub record StandbyIs (runs : List Run) (m : List ℕ) (s : Numbers) (j : Judged) (came : List Message) (answers : List Arrival) : Type 0 where
+pub record StandbyIs (runs : List Run) (m : List ℕ) (s : Numbers) (j : Judged) (came : List Message) (answers : List (Result Arrival)) : Type 0 where
   pub stands : Stands runs m s.n j
   pub run : s.run ≡ j.run
   pub met : MetIs came s.highest s.h
   pub agrees : Agrees s
-  pub unrefused : (cause : Refusal) → Memᴰ (Refused cause) answers → ⊥
+  pub unrefused : (cause : Refusal) → Memᴰ (Err cause) answers → ⊥
 
-unrefused-more : {answers : List Arrival} {r : Arrival} → ((cause : Refusal) → Memᴰ (Refused cause) answers → ⊥)
-    → ((cause : Refusal) → Refused cause ≡ r → ⊥) → (cause : Refusal) → Memᴰ (Refused cause) (answers ++ r ∷ []) → ⊥
+unrefused-more : {answers : List (Result Arrival)} {r : Result Arrival} → ((cause : Refusal) → Memᴰ (Err cause) answers → ⊥)
+    → ((cause : Refusal) → Err cause ≡ r → ⊥) → (cause : Refusal) → Memᴰ (Err cause) (answers ++ r ∷ []) → ⊥
 unrefused-more {answers} f g cause m = ⊎_elim (f cause) (λ x. g cause (Memᴰ.eq_of_singleton x)) (Memᴰ.append_cases answers m)
 
 -- the numbers of a standby that the message x leaves at n in run q
@@ -175,30 +175,21 @@ abbrev left_at : Numbers → Message → ℕ → ℕ → Numbers
 left_at s x n q = record { n = n; h = (met s (run_of x) (number_of x)).h; run = q; highest = (met s (run_of x) (number_of x)).highest }
 
 -- a message arrives, and leaves memory m' and such numbers; or the standby stays where it is
-module _ {runs : List Run} {m : List ℕ} {s : Numbers} {j : Judged} {came : List Message} {answers : List Arrival} (S : StandbyIs runs m s j came answers)
-    (x : Message) {r : Arrival} (never : (cause : Refusal) → Refused cause ≡ r → ⊥) {k : Judged} (e : judged_by j x ≡ k) where
+module _ {runs : List Run} {m : List ℕ} {s : Numbers} {j : Judged} {came : List Message} {answers : List (Result Arrival)} (S : StandbyIs runs m s j came answers)
+    (x : Message) {r : Result Arrival} (unrefused : (cause : Refusal) → Err cause ≡ r → ⊥) {k : Judged} (e : judged_by j x ≡ k) where
   then-left : {m' : List ℕ} {n q : ℕ} → Stands runs m' n k → q ≡ k.run → Agrees (left_at s x n q)
       → StandbyIs runs m' (left_at s x n q) (judged_by j x) (came ++ x ∷ []) (answers ++ r ∷ [])
-  then-left T f A = rw e (record { stands = T; run = f; met = met-more x s S.met; agrees = A; unrefused = unrefused-more S.unrefused never })
+  then-left T f A = rw e (record { stands = T; run = f; met = met-more x s S.met; agrees = A; unrefused = unrefused-more S.unrefused unrefused })
 
   then-stays : Stands runs m s.n k → s.run ≡ k.run → StandbyIs runs m (met s (run_of x) (number_of x)) (judged_by j x) (came ++ x ∷ []) (answers ++ r ∷ [])
   then-stays T f =
       let M = meets s (run_of x) (number_of x) in
       then-left (rw M.same-n T) (M.same-run ∙ f) (agrees-met S.agrees (run_of x) (number_of x))
 
-never-repeat : (cause : Refusal) → Refused cause ≡ Repeat → ⊥
-never-repeat cause e = let z : ◌≡◌ {A = ℕ} 0 1 = cc in omega arith
+never : (a : Arrival) (cause : Refusal) → Err cause ≡ Ok a → ⊥
+never a cause e = let z : ◌≡◌ {A = ℕ} 0 1 = cc in omega arith
 
-never-early : (cause : Refusal) → Refused cause ≡ Early → ⊥
-never-early cause e = let z : ◌≡◌ {A = ℕ} 0 1 = cc in omega arith
-
-never-applied : (cause : Refusal) → Refused cause ≡ Applied → ⊥
-never-applied cause e = let z : ◌≡◌ {A = ℕ} 0 1 = cc in omega arith
-
-never-taken : (cause : Refusal) → Refused cause ≡ Taken → ⊥
-never-taken cause e = let z : ◌≡◌ {A = ℕ} 0 1 = cc in omega arith
-
-module _ {runs : List Run} {m : List ℕ} {s : Numbers} {j : Judged} {came : List Message} {answers : List Arrival} (S : StandbyIs runs m s j came answers) where
+module _ {runs : List Run} {m : List ℕ} {s : Numbers} {j : Judged} {came : List Message} {answers : List (Result Arrival)} (S : StandbyIs runs m s j came answers) where
   met-run : (q k : ℕ) → (met s q k).run ≡ j.run
   met-run q k = (meets s q k).same-run ∙ S.run
 
@@ -219,7 +210,7 @@ module _ {runs : List Run} {m : List ℕ} {s : Numbers} {j : Judged} {came : Lis
     same-n : (met s c.run c.number).n ≡ s.n
     same-n = (meets s c.run c.number).same-n
 
-    arrived-next : {m' : List ℕ} {s' : Numbers} {r : Arrival} → c.run ≡ (met s c.run c.number).run → c.number ≡ (met s c.run c.number).n + 1
+    arrived-next : {m' : List ℕ} {s' : Numbers} {r : Result Arrival} → c.run ≡ (met s c.run c.number).run → c.number ≡ (met s c.run c.number).n + 1
         → Comes (applied (table_of m) m (met s c.run c.number) c) m s m' s' r
         → StandbyIs runs m' s' (judged_by j (changed c)) (came ++ changed c ∷ []) (answers ++ r ∷ [])
     unfolding left_by run_of number_of room_cause first_cause
@@ -227,32 +218,32 @@ module _ {runs : List Run} {m : List ℕ} {s : Numbers} {j : Judged} {came : Lis
         let N = change-in {n = s.n} (q ∙ same-run) (omega (arith, same-n)) in
         let A = rw (applied-room (table_of m) m (met s c.run c.number) c (rw (next-room S.stands N))) at D in
         rw (A.memory, A.numbers, A.answer)
-        (then-left S (changed c) never-applied (judged-same j c (omega (arith, same-run))) (rw same-n (stands-next S.stands N)) same-run
+        (then-left S (changed c) (never Applied) (judged-same j c (omega (arith, same-run))) (rw same-n (stands-next S.stands N)) same-run
         (agrees-here s (sym q) (sym e)))
 
-    arrived-by : {call : Result Left} {m' : List ℕ} {s' : Numbers} {r : Arrival} → Taking (table_of m) m (met s c.run c.number) c call
+    arrived-by : {call : Result Left} {m' : List ℕ} {s' : Numbers} {r : Result Arrival} → Taking (table_of m) m (met s c.run c.number) c call
         → Comes call m s m' s' r
         → StandbyIs runs m' s' (judged_by j (changed c)) (came ++ changed c ∷ []) (answers ++ r ∷ [])
     unfolding left_by run_of number_of
     arrived-by (lower l) D =
         rw (D.memory, D.numbers, D.answer)
-        (then-stays S (changed c) never-repeat (judged-still j c (λ e. omega (arith, same-run)) (λ one. omega (arith, same-run))) S.stands S.run)
+        (then-stays S (changed c) (never Repeat) (judged-still j c (λ e. omega (arith, same-run)) (λ one. omega (arith, same-run))) S.stands S.run)
     arrived-by (waits l ne) D =
         rw (D.memory, D.numbers, D.answer)
-        (then-stays S (changed c) never-early (judged-still j c (λ e. omega (arith, same-run)) (λ one. absurd (ne one))) S.stands S.run)
+        (then-stays S (changed c) (never Early) (judged-still j c (λ e. omega (arith, same-run)) (λ one. absurd (ne one))) S.stands S.run)
     arrived-by (comes l one) D =
         rw (D.memory, D.numbers, D.answer)
-        (then-left S (changed c) never-applied (judged-moved j c (omega (arith, same-run)) one)
+        (then-left S (changed c) (never Applied) (judged-moved j c (omega (arith, same-run)) one)
         (stands-next (stands-cleared m S.stands.holding) (change-in refl one)) refl (agrees-here s refl (sym one)))
     arrived-by (repeats q l) D =
         rw (D.memory, D.numbers, D.answer)
-        (then-stays S (changed c) never-repeat (judged-same j c (omega (arith, same-run))) (stands-other c S.stands (λ e. omega (arith, same-n))) S.run)
+        (then-stays S (changed c) (never Repeat) (judged-same j c (omega (arith, same-run))) (stands-other c S.stands (λ e. omega (arith, same-n))) S.run)
     arrived-by (early q l) D =
         rw (D.memory, D.numbers, D.answer)
-        (then-stays S (changed c) never-early (judged-same j c (omega (arith, same-run))) (stands-other c S.stands (λ e. omega (arith, same-n))) S.run)
+        (then-stays S (changed c) (never Early) (judged-same j c (omega (arith, same-run))) (stands-other c S.stands (λ e. omega (arith, same-n))) S.run)
     arrived-by (next q e) D = arrived-next q e D
 
-    arrived : {m' : List ℕ} {s' : Numbers} {r : Arrival} → Arrives m (change_words c) s m' s' r
+    arrived : {m' : List ℕ} {s' : Numbers} {r : Result Arrival} → Arrives m (change_words c) s m' s' r
         → StandbyIs runs m' s' (judged_by j (changed c)) (came ++ changed c ∷ []) (answers ++ r ∷ [])
     arrived D =
         arrived-by (taking (table_of m) m (met s c.run c.number) c)
@@ -260,29 +251,29 @@ module _ {runs : List Run} {m : List ℕ} {s : Numbers} {j : Judged} {came : Lis
 
   -- an image
   module _ {i : Image} (I : Imaged runs i) where
-    loaded-by : {l : Left} {m' : List ℕ} {s' : Numbers} {r : Arrival} → Loading m (met s i.run i.number) i l → Comes (Ok l) m s m' s' r
+    loaded-by : {l : Left} {m' : List ℕ} {s' : Numbers} {r : Result Arrival} → Loading m (met s i.run i.number) i l → Comes (Ok l) m s m' s' r
         → StandbyIs runs m' s' (judged_by j (image i)) (came ++ image i ∷ []) (answers ++ r ∷ [])
     unfolding left_by run_of number_of takes
     loaded-by (taken l less) D =
         let same = met-run i.run i.number in
         rw (D.memory, D.numbers, D.answer)
-        (then-left S (image i) never-taken (judged-taken j i (omega arith) (λ e. omega (arith, met-reach i.run i.number, less (omega arith))))
+        (then-left S (image i) (never Taken) (judged-taken j i (omega arith) (λ e. omega (arith, met-reach i.run i.number, less (omega arith))))
         (stands-image m S.stands.holding I) refl (agrees-here s refl refl))
     loaded-by (passed l few) D =
         let same = met-run i.run i.number in
         rw (D.memory, D.numbers, D.answer)
-        (then-stays S (image i) never-repeat (judged-passed j i (omega arith) (λ e. omega (arith, met-reach i.run i.number, few (omega arith))))
+        (then-stays S (image i) (never Repeat) (judged-passed j i (omega arith) (λ e. omega (arith, met-reach i.run i.number, few (omega arith))))
         S.stands S.run)
 
-    loads : {m' : List ℕ} {s' : Numbers} {r : Arrival} → Loads m (image_words i) s m' s' r
+    loads : {m' : List ℕ} {s' : Numbers} {r : Result Arrival} → Loads m (image_words i) s m' s' r
         → StandbyIs runs m' s' (judged_by j (image i)) (came ++ image i ∷ []) (answers ++ r ∷ [])
     loads D =
         loaded-by (loading-as m (met s i.run i.number) i)
         (rw (loading-image m (image_words i) s S.stands.holding (no-conflict s S.agrees) (image-read I.writable)) at D)
 
 -- what was sent arrives
-module _ {runs : List Run} {m : List ℕ} {s : Numbers} {came : List Message} {answers : List Arrival} (S : StandbyIs runs m s (judged came) came answers)
-    {m' : List ℕ} {s' : Numbers} {r : Arrival} {all : List Message} {told : List Arrival} where
+module _ {runs : List Run} {m : List ℕ} {s : Numbers} {came : List Message} {answers : List (Result Arrival)} (S : StandbyIs runs m s (judged came) came answers)
+    {m' : List ℕ} {s' : Numbers} {r : Result Arrival} {all : List Message} {told : List (Result Arrival)} where
   then-record : {c : Change} → Genuine runs (changed c) → Arrives m (change_words c) s m' s' r → all ≡ came ++ changed c ∷ [] → told ≡ answers ++ r ∷ []
       → StandbyIs runs m' s' (judged all) all told
   then-record {c} (change-is k C) D e f = rw (e, f, judged-more came (changed c)) (arrived S C D)
@@ -291,7 +282,7 @@ module _ {runs : List Run} {m : List ℕ} {s : Numbers} {came : List Message} {a
       → StandbyIs runs m' s' (judged all) all told
   then-load {i} (image-is I) D e f = rw (e, f, judged-more came (image i)) (loads S I D)
 
-pub standby-is : {runs : List Run} {sent : List Message} {s : Standby} {came : List Message} {answers : List Arrival}
+pub standby-is : {runs : List Run} {sent : List Message} {s : Standby} {came : List Message} {answers : List (Result Arrival)}
     → ((m : Message) → Memᴰ m sent → Genuine runs m) → Arrivals Arrives Loads sent s came answers
     → StandbyIs runs s.memory s.numbers (judged came) came answers
 unfolding judged_from
@@ -307,7 +298,7 @@ standby-is G (then_load {i = i} A x D e f) = then-load (standby-is G A) (G (imag
 
 -- ---- before a run is opened
 
-module _ {runs : List Run} {s : Standby} {came : List Message} {answers : List Arrival}
+module _ {runs : List Run} {s : Standby} {came : List Message} {answers : List (Result Arrival)}
     (S : StandbyIs runs s.memory s.numbers (judged came) came answers) where
   pub opened : Greatest (Opened came) s.numbers.run
   opened = rw S.run (judged-opened came)

@@ -17,7 +17,6 @@ use Rattle.paths.specs.declared.Descriptor.{Descriptor}
 use Rattle.paths.specs.Components.{Bytes}
 use Rattle.paths.specs.Copying.{begun}
 use Rattle.paths.proofs.ByteLaws.{bytes-none, bytes-cons}
-use Rattle.table.specs.declared.Outcome.TheVariants as outcome
 use Rattle.table.specs.Tables.{Table, fresh, is_table}
 use Rattle.table.specs.Acts.{Act, apply_act, apply_acts}
 use Rattle.table.specs.Memory.{table_bytes, put, do_act, do_acts}
@@ -40,13 +39,14 @@ use Rattle.link.specs.Beginning.{begin_call, BeginsRun}
 use Rattle.link.specs.Imaging.{image_call, words_in, size_in, WritesImage}
 use Rattle.link.proofs.LinkLaws.{room-long}
 use Rattle.link.proofs.BeginningLaws.{begins-refused, begins-fresh}
-use Rattle.walk.specs.declared.Answer.{Answer}
-use Rattle.walk.specs.Calls.{query_answer}
+use Rattle.walk.specs.declared.PermissionState.{PermissionState}
+use Rattle.walk.specs.Calls.{query_call}
 use Rattle.deciding.specs.declared.Call.{Call}
 use Rattle.deciding.specs.Decisions.{Decision}
 use Rattle.items.specs.Items.{ItemList}
-use Rattle.calls.specs.Calls.{answer_in, asked_in, decided_acts, About, ask_call, text_due, revoke_call}
+use Rattle.calls.specs.Calls.{answer_in, decided_acts, About, ask_call, text_due, revoke_call}
 use Rattle.calls.specs.Changes.{switches_call, insert_call}
+use Rattle.calls.proofs.AnswerLaws.{asked_by, asked-state, asked-told, asked-text, asked-words, revoked_by, revoked-state, revoked-words, sent_by, sent-cause, sent-size}
 use Rattle.child.specs.Calls.{Creation, child_call, refusal_in, times_asked, child_acts, child_after}
 use Rattle.standby.specs.declared.Numbers.{Numbers}
 use Rattle.standby.specs.declared.Arrival.{Arrival}
@@ -85,6 +85,7 @@ use Rattle.handover.specs.Handover.{
   MainIn,
 }
 use Rattle.handover.specs.Witness.{
+  done,
   Line,
   beginning,
   inserting,
@@ -125,6 +126,10 @@ module _ (run : ℕ) (a : Main) (w : List ℕ) where
   abbrev size : List Act → ℕ
   size acts = length (sent run a acts)
 
+  size-none : 0 ≡ size []
+  unfolding numbered all_words
+  size-none = refl
+
   sends-left : {made : List Act} (acts : List Act) → made ≡ acts → Sends (Linked run) made (lends a w) (lends (after a acts) (space acts)) (size acts)
   unfolding changes_of
   sends-left acts e = rw e (record {
@@ -141,9 +146,10 @@ module _ (run : ℕ) (a : Main) (w : List ℕ) where
       let acts = single_act call in
       record {
         step =
-            inserts w kind p cwd (space acts) (record { outcome = outcome_of (cause_of call); words = size acts }) b c
-            (record { outcome = rw e; sends = sends-left acts (rw e) }) (rw e) (at-start _ _);
-        is = refl;
+            inserts w kind p cwd (space acts) (sent_by size size-none call) b c
+            (record { outcome = rw e (sent-cause size size-none call); sends = rw (sent-size size size-none call) (sends-left acts (rw e)) }) (rw e)
+            (rw (sent-size size size-none call) (at-start _ _));
+        is = rw (sent-cause size size-none call);
       }
 
   pub switches-steps : (v : ℕ) (call : Result Act) → switches_call (Linked run) (lends a w) v ≡ call
@@ -153,9 +159,10 @@ module _ (run : ℕ) (a : Main) (w : List ℕ) where
       let acts = single_act call in
       record {
         step =
-            switches w v (space acts) (record { outcome = outcome_of (cause_of call); words = size acts })
-            (record { outcome = rw e; sends = sends-left acts (rw e) }) (rw e) (at-start _ _);
-        is = refl;
+            switches w v (space acts) (sent_by size size-none call)
+            (record { outcome = rw e (sent-cause size size-none call); sends = rw (sent-size size size-none call) (sends-left acts (rw e)) }) (rw e)
+            (rw (sent-size size size-none call) (at-start _ _));
+        is = rw (sent-cause size size-none call);
       }
 
   pub ask-steps : (kind : Call) (s : List ℕ) (what : About) (response : ℕ) → Bytes what.given → Bytes what.cwd → (call : Result Decision)
@@ -167,10 +174,13 @@ module _ (run : ℕ) (a : Main) (w : List ℕ) where
       let text = text_due call what in
       record {
         step =
-            asks kind w s what response (space acts) (begun text s)
-            (record { answer = answer_in call; asked = asked_in call; text = length text; words = size acts }) b c
-            (record { answers = record { answer = rw e; asked = rw e; size = rw e; space = rw e }; sends = sends-left acts (rw e) }) (rw e) (at-start _ _);
-        is = refl;
+            asks kind w s what response (space acts) (begun text s) (asked_by size size-none call what) b c
+            (record {
+              answers =
+                  rw e (record { answer = asked-state size size-none what call; asked = asked-told size size-none what call; size = asked-text size size-none what call; space = refl });
+              sends = rw (asked-words size size-none what call) (sends-left acts (rw e));
+            }) (rw e) (rw (asked-words size size-none what call) (at-start _ _));
+        is = rw (asked-state size size-none what call);
       }
 
   pub revoke-steps : (what : About) → Bytes what.given → Bytes what.cwd → (call : Result Decision) → revoke_call (Linked run) (lends a w) what ≡ call
@@ -180,9 +190,10 @@ module _ (run : ℕ) (a : Main) (w : List ℕ) where
       let acts = decided_acts call in
       record {
         step =
-            revokes w what (space acts) (record { answer = answer_in call; words = size acts }) b c
-            (record { answer = rw e; sends = sends-left acts (rw e) }) (rw e) (at-start _ _);
-        is = refl;
+            revokes w what (space acts) (revoked_by size size-none call) b c
+            (record { answer = rw e (revoked-state size size-none call); sends = rw (revoked-words size size-none call) (sends-left acts (rw e)) }) (rw e)
+            (rw (revoked-words size size-none call) (at-start _ _));
+        is = rw (revoked-state size size-none call);
       }
 
   pub child-steps : (c : List ℕ) (code : ℕ) (list : ItemList) (cwd : List ℕ) → Bytes list.bytes → Bytes cwd → (call : Result Creation)
@@ -199,7 +210,7 @@ module _ (run : ℕ) (a : Main) (w : List ℕ) where
         is = refl;
       }
 
-pub query-steps : (run : ℕ) (a : Main) (mode : ℕ) (d : Descriptor) (p cwd : List ℕ) (r : Answer) → r ≡ query_answer a.memory mode d p cwd
+pub query-steps : (run : ℕ) (a : Main) (mode : ℕ) (d : Descriptor) (p cwd : List ℕ) (r : Result PermissionState) → r ≡ query_call a.memory mode d p cwd
     → Steps run a [] (querying mode d p r)
 unfolding line_of do_acts numbered all_words
 query-steps run a mode d p cwd r e =
@@ -229,10 +240,10 @@ course-none = record { main = record { memory = []; number = 0 }; calls = no_run
 module _ {runs : List Run} {sent : List Message} {lines : List Line} (C : Course runs sent lines) where
   -- a run begins, in the memory m
   pub course-begins : (q : ℕ) {m : List ℕ} → table_bytes ≤ length m → Bytes m → is_run q ≡ true → Above q runs
-      → Course (record { number = q; acts = [] } ∷ runs) sent (lines ++ beginning q outcome.Done ∷ [])
+      → Course (record { number = q; acts = [] } ∷ runs) sent (lines ++ beginning q done ∷ [])
   unfolding script
   course-begins q {m} long b known above =
-      let B : BeginsRun m q 0 (put fresh m) 0 outcome.Done = begins-fresh long known (makes-fresh long refl) in
+      let B : BeginsRun m q 0 (put fresh m) 0 done = begins-fresh long known (makes-fresh long refl) in
       record {
         main = record { memory = put fresh m; number = 0 };
         calls = then_run C.calls m 0 q above B refl;
@@ -242,7 +253,7 @@ module _ {runs : List Run} {sent : List Message} {lines : List Line} (C : Course
 
   -- a beginning that is refused
   pub course-refuses : (q : ℕ) (cause : Refusal) → begin_call C.main.memory q ≡ Err cause
-      → Course runs sent (lines ++ beginning q (outcome.Refused cause) ∷ [])
+      → Course runs sent (lines ++ beginning q (Err cause) ∷ [])
   unfolding script
   course-refuses q cause e =
       record { main = C.main; calls = then_no_run C.calls q cause (begins-refused e); said = rw C.said; bytes = C.bytes }
@@ -302,7 +313,7 @@ abbrev pub at : ℕ → ℕ → ℕ → ℕ → Numbers
 at n h run highest = record { n = n; h = h; run = run; highest = highest }
 
 -- arrivals of what was sent, with these answers, after which memory holds the table t
-pub record Followed (Arriving Loading : Promise) (sent came : List Message) (answers : List Arrival) (t : Table) (s : Numbers) : Type 0 where
+pub record Followed (Arriving Loading : Promise) (sent came : List Message) (answers : List (Result Arrival)) (t : Table) (s : Numbers) : Type 0 where
   pub memory : List ℕ
   pub arrivals : Arrivals Arriving Loading sent (record { memory = memory; numbers = s }) came answers
   pub stands : Stands memory t
@@ -363,10 +374,10 @@ abbrev pub next_image : Bringing → Table → List ℕ → Numbers → Image �
 next_image bringing t m s i = and_then (standing t s) (λ t. Ok (bringing m s i))
 
 -- in whatever memory, the numbers s become s', with this effect and this answer
-abbrev pub Leaves : (List ℕ → Result Left) → Numbers → Effect → Arrival → Numbers → Type 0
+abbrev pub Leaves : (List ℕ → Result Left) → Numbers → Effect → Result Arrival → Numbers → Type 0
 Leaves call s x r s' = (m : List ℕ) → left_by (call m) m s ≡ record { answer = r; memory = memory_by x m; numbers = s' }
 
-leaves-comes : (call : List ℕ → Result Left) {s s' : Numbers} (x : Effect) {r : Arrival} → Leaves call s x r s'
+leaves-comes : (call : List ℕ → Result Left) {s s' : Numbers} (x : Effect) {r : Result Arrival} → Leaves call s x r s'
     → (m : List ℕ) {given : Result Left} → given ≡ call m → Comes given m s (memory_by x m) s' r
 leaves-comes call {s} x L m e =
     let is = sym (ap (λ (y : Result Left). left_by y m s) e ∙ L m) in
@@ -380,9 +391,9 @@ image-legible : {runs : List Run} {i : Image} → Genuine runs (image i) → rea
 image-legible (image-is I) = image-read I.writable
 
 module _ {runs : List Run} {sent : List Message} {lines : List Line} (C : Course runs sent lines)
-    {came : List Message} {answers : List Arrival} {t : Table} {s : Numbers} where
+    {came : List Message} {answers : List (Result Arrival)} {t : Table} {s : Numbers} where
   pub followed-record : (taking : Taking) {Loading : Promise} (F : Followed (By taking) Loading sent came answers t s) {c : Change} → Memᴰ (changed c) sent
-      → (x : Effect) {r : Arrival} {s' : Numbers} → Leaves (λ m. next taking t m s c) s x r s' → fits_by x t ≡ true
+      → (x : Effect) {r : Result Arrival} {s' : Numbers} → Leaves (λ m. next taking t m s c) s x r s' → fits_by x t ≡ true
       → Followed (By taking) Loading sent (came ++ changed c ∷ []) (answers ++ r ∷ []) (table_by x t) s'
   followed-record taking F {c} member x L f = record {
     memory = memory_by x F.memory;
@@ -394,7 +405,7 @@ module _ {runs : List Run} {sent : List Message} {lines : List Line} (C : Course
       is = unfold well_formed and_then in rw (standing-is F.stands s, change-legible (genuine (main-is C.calls) (changed c) member))
 
   pub followed-image : (bringing : Bringing) {Arriving : Promise} (F : Followed Arriving (LoadBy bringing) sent came answers t s) {i : Image}
-      → Memᴰ (image i) sent → (x : Effect) {r : Arrival} {s' : Numbers} → Leaves (λ m. next_image bringing t m s i) s x r s' → fits_by x t ≡ true
+      → Memᴰ (image i) sent → (x : Effect) {r : Result Arrival} {s' : Numbers} → Leaves (λ m. next_image bringing t m s i) s x r s' → fits_by x t ≡ true
       → Followed Arriving (LoadBy bringing) sent (came ++ image i ∷ []) (answers ++ r ∷ []) (table_by x t) s'
   followed-image bringing F {i} member x L f = record {
     memory = memory_by x F.memory;

@@ -12,7 +12,6 @@ use Rattle.paths.specs.Relations.{is_prefix}
 use Rattle.paths.specs.Giving.{path}
 use Rattle.paths.proofs.ComponentLaws.{and_left}
 use Rattle.paths.proofs.RelationLaws.{prefix_refl}
-use Rattle.table.specs.declared.Dropped.TheVariants.{Prefixes, All}
 use Rattle.table.specs.declared.Kind.{Kind}
 use Rattle.table.specs.declared.Kind.TheVariants.{G, D, P, I}
 use Rattle.table.specs.declared.Place.{Place}
@@ -20,7 +19,7 @@ use Rattle.table.specs.declared.Place.TheVariants.{Found, At}
 use Rattle.table.specs.Entries.{Entry, is_granted, same_path}
 use Rattle.table.specs.Placing.{place, placed_at}
 use Rattle.table.specs.Tables.{Table, has, set_bit, clear_bit, any, granted, flag_denied, flag_ignored, prompt_denied}
-use Rattle.table.specs.Acts.{insert, set_switches, revoke, revoke_all, inserted, inserted_by, kept_unless, without, dropped_by, apply_act}
+use Rattle.table.specs.Acts.{insert, set_switches, revoke, revoke_all, inserted, inserted_by, kept_unless, without, dropped_by, starts_of, every_path, apply_act}
 use Rattle.table.proofs.TableLaws.{any-more}
 use Rattle.table.proofs.ActLaws.{dropped-grants}
 use Rattle.table.proofs.FoundLaws.{found-any}
@@ -133,14 +132,14 @@ module _ (t : Table) (p : List ℕ) (shut : IsShut t p) where
 
   pub shut-revoke : (q : List ℕ) → IsShut (apply_act t (revoke q)) p
   unfolding apply_act
-  shut-revoke q = open_by_lem _ p ∙ dropped-shut t.switches p (dropped_by Prefixes q) (dropped-grants Prefixes q) t.entries was
+  shut-revoke q = open_by_lem _ p ∙ dropped-shut t.switches p (dropped_by (starts_of q)) (dropped-grants (starts_of q)) t.entries was
 
   pub shut-revoke-all : IsShut (apply_act t revoke_all) p
   unfolding apply_act
   shut-revoke-all =
       open_by_lem _ p
-      ∙ cleared-shut t.switches (first_match p (without (dropped_by All []) t.entries))
-      (dropped-shut t.switches p (dropped_by All []) (dropped-grants All []) t.entries was)
+      ∙ cleared-shut t.switches (first_match p (without (dropped_by every_path) t.entries))
+      (dropped-shut t.switches p (dropped_by every_path) (dropped-grants every_path) t.entries was)
 
   pub shut-eight : IsShut (apply_act t (set_switches (set_bit t.switches prompt_denied))) p
   unfolding apply_act

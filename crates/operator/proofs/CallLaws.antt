@@ -37,8 +37,6 @@ use Rattle.walk.specs.declared.AllowPartial.TheVariants.{TreatAsPartialGranted}
 use Rattle.walk.specs.Walk.{matches_kind, matches, is_denied_mode, is_denied, without_match, query_desc, is_allow_all}
 use Rattle.deciding.specs.declared.PromptResponse.{PromptResponse}
 use Rattle.deciding.specs.declared.PromptResponse.TheVariants.{Deny, Allow, AllowAll}
-use Rattle.deciding.specs.declared.ResponseRead.{ResponseRead}
-use Rattle.deciding.specs.declared.ResponseRead.TheVariants.{Response, Unknown}
 use Rattle.deciding.specs.declared.Call.{Call}
 use Rattle.deciding.specs.declared.Call.TheVariants.{Check, Request}
 use Rattle.deciding.specs.Decisions.{
@@ -63,7 +61,7 @@ use Rattle.deciding.specs.Decisions.{
 use Rattle.deciding.specs.Questions.{text_space}
 use Rattle.calls.specs.declared.Asked.{Asked}
 use Rattle.calls.specs.declared.Revoked.{Revoked}
-use Rattle.calls.specs.Calls.{carried_out, decided_acts, asked_in, settled, About, about, ask_call, Asks, revoke_call, Revokes}
+use Rattle.calls.specs.Calls.{carried_out, decided_acts, asked_in, settled, About, about, ask_call, told, Asks, revoke_call, Revokes}
 use Rattle.calls.proofs.KeepLaws.{ask-acted, revoke-acted}
 use Rattle.calls.proofs.AskLaws.{ask-no-table}
 use Rattle.operator.specs.Operator.{is_open, state_of, Shut, Open, says_no, Answered, IsYes}
@@ -190,15 +188,15 @@ unfolding given resolved query_of
 given_is NoPath p cwd = hands refl
 given_is Path p cwd = hands_then (hands-unless {P = λ q. resolve p cwd ≡ q} _ _ (λ e. refl)) (λ q e. hands (ap path e))
 
-known_is : (read : ResponseRead) → Hands (λ answer. read ≡ Response answer) (known_response read)
+known_is : (read : Option PromptResponse) → Hands (λ answer. read ≡ Some answer) (known_response read)
 unfolding known_response
-known_is (Response answer) = hands refl
-known_is Unknown = stops
+known_is (Some answer) = hands refl
+known_is None = stops
 
 -- check and request on the table t, of q, with the answer that a number names
 record DecidedBy (t : Table) (q : Query) (response : ℕ) (decision : Decision) : Type 0 where
   answer : PromptResponse
-  known : response_of response ≡ Response answer
+  known : response_of response ≡ Some answer
   comes : Comes t q answer decision.asked decision.act
 
 -- a revoke
@@ -251,7 +249,7 @@ module _ (t : Table) (p : List ℕ) where
   revoked-acts q shut stops = stops
   revoked-acts q shut (hands {x = decision} e) = hands {x = decision} (rw e (revoked-shut t p shut q))
 
-  answers-open : {response : ℕ} {c : Result Decision} → Hands (DecidedBy t (path p) response) c → asked_in c ≡ true → response_of response ≡ Response Allow
+  answers-open : {response : ℕ} {c : Result Decision} → Hands (DecidedBy t (path p) response) c → asked_in c ≡ true → response_of response ≡ Some Allow
       → IsOpen (apply_acts t (decided_acts c)) p
   unfolding asked_in decided_acts
   answers-open stops a e = absurd (false≢true a)
@@ -271,15 +269,15 @@ unfolding asked_in
 asked-held call link l s a response true h asked = h
 asked-held call link l s a response false h asked = absurd (false≢true (rw (ask-no-table call link l s a response h) at asked))
 
-pub ask-shut : {p : List ℕ} {call : Call} {link : Link} {l : Lent} {s : List ℕ} {a : About} {response : ℕ} {l' : Lent} {s' : List ℕ} {r : Asked}
-    → Asks call link l s a response l' s' r → Answered (says_no p) r.asked (query_about a) response → Shut p l.memory → Shut p l'.memory
+pub ask-shut : {p : List ℕ} {call : Call} {link : Link} {l : Lent} {s : List ℕ} {a : About} {response : ℕ} {l' : Lent} {s' : List ℕ} {r : Result Asked}
+    → Asks call link l s a response l' s' r → Answered (says_no p) (told r) (query_about a) response → Shut p l.memory → Shut p l'.memory
 ask-shut {p} {call} {link} {l} {s} {a} {response} A f S =
     let t = table_of l.memory in
     left-shut _ (ask-acted call link l s a response S.holding) A.sends.memory
     (acts-shut t p S.state (answers-shut t p S.state (λ k. f (A.answers.asked ∙ k)) (ask-comes link l a S.holding call s response)))
 
-pub ask-open : {p : List ℕ} {call : Call} {link : Link} {l : Lent} {s given cwd : List ℕ} {response : ℕ} {l' : Lent} {s' : List ℕ} {r : Asked}
-    → Asks call link l s (about Path given cwd) response l' s' r → IsYes p given cwd r.asked response → Open p l'.memory
+pub ask-open : {p : List ℕ} {call : Call} {link : Link} {l : Lent} {s given cwd : List ℕ} {response : ℕ} {l' : Lent} {s' : List ℕ} {r : Result Asked}
+    → Asks call link l s (about Path given cwd) response l' s' r → IsYes p given cwd (told r) response → Open p l'.memory
 unfolding query_of
 ask-open {p} {call} {link} {l} {s} {given} {cwd} {response} A Y =
     let a = about Path given cwd in
@@ -288,7 +286,7 @@ ask-open {p} {call} {link} {l} {s} {given} {cwd} {response} A Y =
     left_open _ (ask-acted call link l s a response h) A.sends.memory
     (answers-open (table_of l.memory) p (rw Y.for at (ask-comes link l a h call s response)) asked Y.answer)
 
-pub revoke-shut : {p : List ℕ} {link : Link} {l : Lent} {a : About} {l' : Lent} {r : Revoked} → Revokes link l a l' r → Shut p l.memory → Shut p l'.memory
+pub revoke-shut : {p : List ℕ} {link : Link} {l : Lent} {a : About} {l' : Lent} {r : Result Revoked} → Revokes link l a l' r → Shut p l.memory → Shut p l'.memory
 revoke-shut {p} {link} {l} {a} R S =
     let t = table_of l.memory in
     left-shut _ (revoke-acted link l a S.holding) R.sends.memory

@@ -12,7 +12,6 @@ use Rattle.paths.specs.Copying.{begun}
 use Rattle.paths.specs.Relations.{shared, common, depth, is_prefix}
 use Rattle.paths.specs.Giving.{is_path, resolved, query_of, given}
 use Rattle.table.specs.declared.Kind.TheVariants.{G}
-use Rattle.table.specs.declared.Outcome.TheVariants.{Done}
 use Rattle.table.specs.Entries.{kind_of, known_kind, same_path}
 use Rattle.table.specs.Placing.{place, placed_at}
 use Rattle.table.specs.Tables.{fresh, has, set_bit, marked, any, every, present, marks_of, path_bytes, is_entry, is_table}
@@ -32,11 +31,10 @@ use Rattle.table.specs.Acts.{
   apply_acts,
 }
 use Rattle.table.specs.Memory.{do_acts}
-use Rattle.table.specs.Carrying.{acts_of, outcome_of}
+use Rattle.table.specs.Carrying.{acts_of}
 use Rattle.table.proofs.StandingLaws.{all_fit, table-in, table_memory, memory-stands}
 use Rattle.records.specs.Records.{all_words}
 use Rattle.link.specs.declared.Link.TheVariants.{Plain}
-use Rattle.link.specs.declared.Sent.{Sent}
 use Rattle.link.specs.Linking.{lacks_room, room_in, numbering, lacks_run, run_in, used_up, carry_cause, carried, single_act}
 use Rattle.link.specs.Sending.{changes_of, alone, Does}
 use Rattle.link.proofs.LinkLaws.{plain-admits}
@@ -59,7 +57,6 @@ use Rattle.walk.specs.Walk.{
 use Rattle.walk.specs.Cases.{bytes, entry}
 use Rattle.deciding.specs.declared.PromptResponse.{PromptResponse}
 use Rattle.deciding.specs.declared.PromptResponse.TheVariants.{Allow, AllowAll}
-use Rattle.deciding.specs.declared.ResponseRead.TheVariants.{Response}
 use Rattle.deciding.specs.declared.Call.TheVariants.{Request}
 use Rattle.deciding.specs.Decisions.{response_of, known_response, switch_on, grant_act, answer_act, Decision, state_by, asks, request_by, request_desc, decide}
 use Rattle.calls.specs.Calls.{carried_out, decided_acts, settled, About, about}
@@ -83,7 +80,7 @@ request-opens : (may : List ℕ → Operator) (a : About) (response : ℕ) (answ
     → and_then (known_response (response_of response)) (λ known. settled Request (numbering Plain 0) prompting a.descriptor a.given a.cwd known)
     ≡ Ok (yes act)
     → decided_acts (Ok (yes act)) ≡ act ∷ []
-    → response_of response ≡ Response answer
+    → response_of response ≡ Some answer
     → may (bytes "/a") (query_of a.descriptor (resolve a.given a.cwd)) answer ≡ true
     → IsShut prompting (bytes "/a")
     → all_fit prompting (act ∷ []) ≡ true
@@ -98,11 +95,11 @@ request-opens may a response answer act v comes acts known allows shut fits open
     needed (opens_by (bytes "/a") prompting (act ∷ []) v shut fits opened step)
 
 -- a plain call that makes one act
-abbrev done : Sent
-done = record { outcome = Done; words = 0 }
+abbrev done : Result ℕ
+done = Ok 0
 
 does-on : {call : Result Act} {m : List ℕ} {act : Act} → call ≡ Ok act → Does Plain call (alone m) (alone (do_acts m (act ∷ []))) done
-unfolding cause_of outcome_of single_act changes_of all_words begun
+unfolding cause_of single_act changes_of all_words begun
 does-on e = rw e (record { outcome = refl; sends = record { memory = refl; number = refl; words = refl; count = refl } })
 
 pub each_needed : EachNeeded

@@ -10,9 +10,8 @@ use Rattle.paths.specs.Giving.{resolved, given}
 use Rattle.table.specs.Memory.{table_of, holds}
 use Rattle.table.proofs.CallLaws.{a-table}
 use Rattle.walk.specs.declared.AllowPartial.TheVariants.{TreatAsPartialGranted}
-use Rattle.walk.specs.declared.Answer.TheVariants.{State}
 use Rattle.walk.specs.Walk.{mode_number, mode_of, known_mode}
-use Rattle.walk.specs.Calls.{query_call, answer_of, query_answer}
+use Rattle.walk.specs.Calls.{query_call}
 use Rattle.operator.specs.Operator.{
   state_of,
   Shut,
@@ -45,8 +44,8 @@ allowed-open : {p m m' : List ℕ} → Allowed promised p m m' → Open p m'
 allowed-open (allowed call link n w s given cwd response n' w' s' r A Y) = ask-open A Y
 
 query-seen : (p m given cwd : List ℕ) → holds m ≡ true → resolved given cwd ≡ Ok p
-    → query_answer m (mode_number TreatAsPartialGranted) Path given cwd ≡ State (state_of (table_of m) p)
-unfolding query_answer query_call answer_of and_then mode_of known_mode given
+    → query_call m (mode_number TreatAsPartialGranted) Path given cwd ≡ Ok (state_of (table_of m) p)
+unfolding query_call and_then mode_of known_mode given
 query-seen p m given cwd h e = rw (a-table m h, e)
 
 pub operator-against-script : OperatorAgainstScript

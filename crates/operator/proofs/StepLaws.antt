@@ -1,6 +1,6 @@
 -- Single steps on a known table: what a call comes to there and leaves, and one that opens a path which was shut. The witness, the needed premises and the
 -- wrong versions rest on these; the claim does not.
-use Rattle.std.specs.Prelude.{Ok}
+use Rattle.std.specs.Prelude.{Some, Ok}
 use Prim.Native.Nat.{ℕ, ◌+◌}
 use mathlib.Core.Path.{◌≡◌, refl, sym, ap, ◌∙◌}
 use mathlib.Core.List.{List, []}
@@ -21,15 +21,17 @@ use Rattle.link.specs.Linking.{numbering}
 use Rattle.link.specs.Sending.{changes_of, Lent, lent, Sends}
 use Rattle.link.specs.Steps.{Admits}
 use Rattle.link.proofs.LinkLaws.{room-long, run-known}
+use Rattle.link.proofs.SendingLaws.{no-changes}
 use Rattle.walk.specs.Walk.{mode_of, known_mode, query_desc}
-use Rattle.walk.specs.Calls.{query_call, answer_of, query_answer}
+use Rattle.walk.specs.Calls.{query_call}
 use Rattle.deciding.specs.declared.Call.{Call}
 use Rattle.deciding.specs.declared.PromptResponse.{PromptResponse}
-use Rattle.deciding.specs.declared.ResponseRead.TheVariants.{Response}
 use Rattle.deciding.specs.Decisions.{response_of, known_response, Decision, revoke_desc}
 use Rattle.deciding.specs.Questions.{text_bytes, text_space}
 use Rattle.calls.specs.declared.Asked.{Asked}
-use Rattle.calls.specs.Calls.{carried_out, answer_in, asked_in, decided_acts, settled, About, ask_call, text_due, Answers, Asks, revoke_call}
+use Rattle.calls.specs.declared.Revoked.{Revoked}
+use Rattle.calls.specs.Calls.{carried_out, answer_in, decided_acts, settled, About, ask_call, text_due, Answers, Asks, revoke_call, Revokes}
+use Rattle.calls.proofs.AnswerLaws.{asked_by, asked-state, asked-told, asked-text, asked-words, revoked_by, revoked-state, revoked-words}
 use Rattle.operator.specs.Operator.{Shut, Open, Operator, Answered, start, then_call, KeepsShut}
 use Rattle.operator.specs.Needed.{Opens}
 use Rattle.operator.proofs.OpenLaws.{IsShut, IsOpen}
@@ -60,9 +62,9 @@ module _ {m : List ℕ} {t : Table} (S : Stands m t) (a : About) where
     unfolding revoke_call and_then
     revoke-on = rw (table-in S, room-long 1 link w A.roomy, run-known link n A.run)
 
-  pub query-on : (mode : ℕ) → query_answer m mode a.descriptor a.given a.cwd
-      ≡ answer_of (and_then (known_mode (mode_of mode)) (λ known. and_then (given a.descriptor a.given a.cwd) (λ q. Ok (query_desc t known q))))
-  unfolding query_answer query_call and_then
+  pub query-on : (mode : ℕ) → query_call m mode a.descriptor a.given a.cwd
+      ≡ and_then (known_mode (mode_of mode)) (λ known. and_then (given a.descriptor a.given a.cwd) (λ q. Ok (query_desc t known q)))
+  unfolding query_call and_then
   query-on mode = rw (table-in S)
 
 -- ---- a call's promise settles everything that it answers and leaves, so that there is a step for what it comes to
@@ -79,20 +81,38 @@ words_of link n acts = length (all_words (changes_of link n acts))
 pub sends-by : {link : Link} (l : Lent) {made acts : List Act} → made ≡ acts → Sends link made l (leaves link acts l) (words_of link l.number acts)
 sends-by l e = rw e (record { memory = refl; number = refl; words = refl; count = refl })
 
--- what check or request answers that comes to c
-abbrev pub result_of : Link → ℕ → Result Decision → About → Asked
-result_of link n c a = record { answer = answer_in c; asked = asked_in c; text = length (text_due c a); words = words_of link n (decided_acts c) }
+pub no-words : (link : Link) (n : ℕ) → 0 ≡ words_of link n []
+unfolding all_words
+no-words link n = rw (no-changes link n)
+
+-- what check or request answers that comes to c, and what revoke does
+abbrev pub result_of : Link → ℕ → Result Decision → About → Result Asked
+result_of link n c a = asked_by (words_of link n) (no-words link n) c a
+
+abbrev pub revoked_of : Link → ℕ → Result Decision → Result Revoked
+revoked_of link n c = revoked_by (words_of link n) (no-words link n) c
 
 pub answers_by : (link : Link) (n : ℕ) {a : About} {call c : Result Decision} (s : List ℕ) → call ≡ c
     → Answers call a s (begun (text_due c a) s) (result_of link n c a)
-answers_by link n s e = record { answer = rw e; asked = rw e; size = rw e; space = rw e }
+answers_by link n {a} {c = c} s e =
+    let size = words_of link n in
+    let none = no-words link n in
+    rw e (record { answer = asked-state size none a c; asked = asked-told size none a c; size = asked-text size none a c; space = refl })
 
 pub asks-by : {call : Call} {link : Link} {l : Lent} {s : List ℕ} {a : About} {response : ℕ} {c : Result Decision} → ask_call call link l s a response ≡ c
     → Asks call link l s a response (leaves link (decided_acts c) l) (begun (text_due c a) s) (result_of link l.number c a)
-asks-by {link = link} {l = l} {s = s} e = record { answers = answers_by link l.number s e; sends = sends-by l (ap decided_acts e) }
+asks-by {link = link} {l = l} {s = s} {a = a} {c = c} e =
+    record { answers = answers_by link l.number s e; sends = rw (asked-words (words_of link l.number) (no-words link l.number) a c) (sends-by l (ap decided_acts e)) }
+
+pub revokes-by : {link : Link} {l : Lent} {a : About} {c : Result Decision} → revoke_call link l a ≡ c
+    → Revokes link l a (leaves link (decided_acts c) l) (revoked_of link l.number c)
+revokes-by {link} {l} {c = c} e =
+    let size = words_of link l.number in
+    let none = no-words link l.number in
+    record { answer = revoked-state size none c ∙ sym (ap answer_in e); sends = rw (revoked-words size none c) (sends-by l (ap decided_acts e)) }
 
 -- the answer that the number names is one that the operator may give
-pub answered-by : (operator : Operator) {asked : Bool} (q : Query) (response : ℕ) (answer : PromptResponse) → response_of response ≡ Response answer
+pub answered-by : (operator : Operator) {asked : Bool} (q : Query) (response : ℕ) (answer : PromptResponse) → response_of response ≡ Some answer
     → operator q answer ≡ true → Answered operator asked q response
 answered-by operator q response answer known may told other also = let same : answer ≡ other = cc (known, also) in rw (← same) may
 

@@ -49,9 +49,8 @@ use Rattle.link.specs.Linking.{at_least_one, lacks_room, numbering, lacks_run, u
 use Rattle.link.specs.Sending.{lent}
 use Rattle.link.specs.Steps.{Admits}
 use Rattle.link.proofs.LinkLaws.{plain-admits}
+use Rattle.walk.specs.declared.PermissionState.{PermissionState}
 use Rattle.walk.specs.declared.PermissionState.TheVariants.{Granted, Prompt, Denied}
-use Rattle.walk.specs.declared.Answer.{Answer}
-use Rattle.walk.specs.declared.Answer.TheVariants.{State}
 use Rattle.walk.specs.Walk.{
   mode_of,
   known_mode,
@@ -70,7 +69,6 @@ use Rattle.walk.specs.Walk.{
   query_desc,
   is_allow_all,
 }
-use Rattle.walk.specs.Calls.{answer_of}
 use Rattle.walk.specs.Cases.{bytes, entry}
 use Rattle.deciding.specs.declared.PromptResponse.TheVariants.{Deny, Allow}
 use Rattle.deciding.specs.declared.Call.{Call}
@@ -99,7 +97,8 @@ use Rattle.calls.specs.Calls.{carried_out, answer_in, asked_in, decided_acts, se
 use Rattle.operator.specs.Operator.{is_open, says_no, Answered, promised, Step, Script, start, then_call}
 use Rattle.operator.specs.Operator as operator
 use Rattle.operator.specs.Witness.{Line, querying, asking, revoking, line_of, lines, five, calls, Witness}
-use Rattle.operator.proofs.StepLaws.{text_room, ask-on, revoke-on, query-on, words_of, sends-by, asks-by, answered-by, shut-on}
+use Rattle.operator.proofs.StepLaws.{text_room, ask-on, revoke-on, query-on, words_of, no-words, asks-by, revokes-by, answered-by, shut-on}
+use Rattle.calls.proofs.AnswerLaws.{asked-state, asked-told, revoked-state}
 
 abbrev target : List ℕ
 target = bytes "/a/b"
@@ -143,23 +142,20 @@ module _ {m : List ℕ} {t : Table} (S : Stands m t) (d : Descriptor) (p : List 
         → Steps m (decided_acts c) (asking link call d p response (asked_in c) (answer_in c))
     unfolding line_of
     ask-steps call response e f = record {
-      step = operator.asks call link 0 w text_room (about d p []) response _ _ _ _ (asks-by (ask-on S (about d p []) A 0 call response ∙ e)) f;
-      is = refl;
+      step = operator.asks call link 0 w text_room (about d p []) response _ _ _ _ (asks-by (ask-on S (about d p []) A 0 call response ∙ e))
+      (rw (asked-told (words_of link 0) (no-words link 0) (about d p []) c) f);
+      is = rw (asked-told (words_of link 0) (no-words link 0) (about d p []) c, asked-state (words_of link 0) (no-words link 0) (about d p []) c);
     }
 
     revoke-steps : and_then (given d p []) (λ q. carried_out (numbering link 0) t (revoke_desc t q)) ≡ c → Steps m (decided_acts c) (revoking link d p (answer_in c))
     unfolding line_of
-    revoke-steps e =
-        let comes = revoke-on S (about d p []) A 0 ∙ e in
-        record {
-          step =
-              operator.revokes link 0 w (about d p []) _ _ (record { answer = answer_in c; words = words_of link 0 (decided_acts c) })
-              (record { answer = rw comes; sends = sends-by (lent m 0 w) (ap decided_acts comes) });
-          is = refl;
-        }
+    revoke-steps e = record {
+      step = operator.revokes link 0 w (about d p []) _ _ _ (revokes-by (revoke-on S (about d p []) A 0 ∙ e));
+      is = rw (revoked-state (words_of link 0) (no-words link 0) c);
+    }
 
-  query-steps : (mode : ℕ) (r : Answer)
-      → answer_of (and_then (known_mode (mode_of mode)) (λ known. and_then (given d p []) (λ q. Ok (query_desc t known q)))) ≡ r → Steps m [] (querying mode d p r)
+  query-steps : (mode : ℕ) (r : Result PermissionState)
+      → and_then (known_mode (mode_of mode)) (λ known. and_then (given d p []) (λ q. Ok (query_desc t known q))) ≡ r → Steps m [] (querying mode d p r)
   unfolding line_of do_acts
   query-steps mode r e = record { step = operator.queries mode (about d p []) r (sym (query-on S (about d p []) mode ∙ e)) refl; is = refl }
 
@@ -184,7 +180,7 @@ unfolding bytes entry first_cause and_then unless
     inserted inserted_by adds would_add has_room overflows kept_unless without dropped_by apply_act act_overflows is_act apply_acts
     acts_of numbering used_up carry_cause
     mode_of known_mode matches_kind matches first_match is_flag is_flag_below is_partial allowed decided_by is_denied_mode is_denied without_match by_match query_desc
-    is_allow_all answer_of
+    is_allow_all
     response_of known_response switch_on grant_act deny_act answer_act unasked state_by asks check_mode check_by check_desc request_by request_desc decide
     revoke_act revoke_desc carried_out answer_in asked_in decided_acts settled
     is_open says_no lines all_fit
@@ -270,7 +266,7 @@ not-empty = record {
         refl
 
     last-query : At 6 8 → At 6 9
-    last-query R = run-then R (query-steps R.stands Path target 1 (State Denied) refl) refl
+    last-query R = run-then R (query-steps R.stands Path target 1 (Ok Denied) refl) refl
 
     whole : At 6 9
     whole =

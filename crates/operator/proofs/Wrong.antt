@@ -45,7 +45,6 @@ use Rattle.link.specs.Sending.{Lent, alone}
 use Rattle.link.proofs.LinkLaws.{room-long, run-known, plain-admits}
 use Rattle.link.proofs.SendingLaws.{records-plain, sends-recorded}
 use Rattle.walk.specs.declared.PermissionState.TheVariants.{Granted, GrantedPartial, Denied}
-use Rattle.walk.specs.declared.Answer.TheVariants.{State}
 use Rattle.walk.specs.Walk.{
   matches_kind,
   matches,
@@ -61,7 +60,6 @@ use Rattle.walk.specs.Walk.{
   by_match,
   query_desc,
 }
-use Rattle.walk.specs.Calls.{answer_of}
 use Rattle.walk.specs.Cases.{bytes, entry}
 use Rattle.deciding.specs.declared.PromptResponse.TheVariants.{Deny}
 use Rattle.deciding.specs.declared.Call.{Call}
@@ -140,7 +138,7 @@ use Rattle.operator.proofs.StepLaws.{
 -- ---- the right versions, in the form of the wrong ones
 
 -- the checking order made with `decide` is `ask_call`
-asks-same : {call : Call} {link : Link} {l : Lent} {s : List ℕ} {a : About} {response : ℕ} {l' : Lent} {s' : List ℕ} {r : Asked}
+asks-same : {call : Call} {link : Link} {l : Lent} {s : List ℕ} {a : About} {response : ℕ} {l' : Lent} {s' : List ℕ} {r : Result Asked}
     → AsksBy decide call link l s a response l' s' r → Asks call link l s a response l' s' r
 unfolding ask_call settled
 asks-same A = record { answers = A.answers; sends = A.sends }
@@ -168,10 +166,10 @@ module _ {A B C : Type 0} (f : Result A → C) (g : Result B → C) (stopped : (
       unless-same (carry_cause numbers t (Some (revoke_act q))) (by t q) (to t q) (e t q held)))))
 
 -- and the one of a revoke, made with `revoke_desc`, is `revoke_call`
-module _ {link : Link} {l : Lent} {a : About} {l' : Lent} {r : Revoked} (R : RevokesBy revokes link l a l' r) where
-  same_answer : r.answer ≡ answer_in (revoke_call link l a)
-  unfolding revoke_call carried_out revoke_desc answer_of answer_in
-  same_answer = R.answer ∙ revoke-told answer_of answer_in (λ cause. refl) link l a _ revoke_desc (λ t q held. refl)
+module _ {link : Link} {l : Lent} {a : About} {l' : Lent} {r : Result Revoked} (R : RevokesBy revokes link l a l' r) where
+  same_answer : revoked_answer r ≡ answer_in (revoke_call link l a)
+  unfolding revoke_call carried_out revoke_desc answer_in
+  same_answer = R.answer ∙ revoke-told (λ x. x) answer_in (λ cause. refl) link l a _ revoke_desc (λ t q held. refl)
 
   same_memory : l'.memory ≡ do_acts l.memory (decided_acts (revoke_call link l a))
   unfolding table_in revoke_call carried_out revoke_desc put_in decided_acts acts_of do_acts do_act
@@ -185,9 +183,9 @@ module _ {link : Link} {l : Lent} {a : About} {l' : Lent} {r : Revoked} (R : Rev
 
 -- promises that imply the calls' own
 record Implies (P : Promises) : Type 0 where
-  asks : (call : Call) {link : Link} {l : Lent} {s : List ℕ} {a : About} {response : ℕ} {l' : Lent} {s' : List ℕ} {r : Asked}
+  asks : (call : Call) {link : Link} {l : Lent} {s : List ℕ} {a : About} {response : ℕ} {l' : Lent} {s' : List ℕ} {r : Result Asked}
       → P.asks call link l s a response l' s' r → Asks call link l s a response l' s' r
-  revokes : {link : Link} {l : Lent} {a : About} {l' : Lent} {r : Revoked} → P.revokes link l a l' r → Revokes link l a l' r
+  revokes : {link : Link} {l : Lent} {a : About} {l' : Lent} {r : Result Revoked} → P.revokes link l a l' r → Revokes link l a l' r
 
 module _ {P : Promises} (F : Implies P) where
   step-implies : {may : Operator} {m m' : List ℕ} → Step P may m m' → Step promised may m m'
@@ -266,7 +264,7 @@ unfolding bytes entry first_cause and_then unless
     acts_of do_acts put_in lacks_room room_in numbering lacks_run run_in used_up carry_cause
     matches_kind matches first_match is_flag is_flag_below is_partial allowed decided_by is_denied_mode is_denied without_match by_match query_desc
     response_of known_response grant_act deny_act answer_act unasked state_by asks request_by request_desc decide
-    revoke_act carried_out asked_in decided_acts answer_of is_open says_no all_fit
+    revoke_act carried_out asked_in decided_acts is_open says_no all_fit
     deny_grants partial_grants inserts_partial takes_unasked answers_unasked allow_nothing is_granted_or_denied drops_denied
 ruled_out = record {
   -- a request for `/a`, denied
@@ -293,7 +291,7 @@ ruled_out = record {
   drops-denied = λ C.
       let S = memory-stands denying refl in
       let L = left-put (table_memory denying) _ allowing refl (long_of (table_memory denying) S.holding) refl in
-      let r : Revoked = record { answer = State Granted; words = 0 } in
+      let r : Result Revoked = Ok (record { state = Granted; words = 0 }) in
       let R : RevokesBy drops_denied Plain (alone (table_memory denying)) (about Path (bytes "/a") []) (alone (put allowing (table_memory denying))) r = record {
         answer = rw (table-in S);
         memory = rw (table-in S);

@@ -115,7 +115,7 @@ module _ (m : List ℕ) (s : Numbers) (h : holds m ≡ true) where
 
 -- ---- by the promise, of a record or of an image
 
-module _ {call : Result Left} {m m' : List ℕ} {s s' : Numbers} {r : Arrival} (K : Kept s (left_by call m s)) (C : Comes call m s m' s' r) where
+module _ {call : Result Left} {m m' : List ℕ} {s s' : Numbers} {r : Result Arrival} (K : Kept s (left_by call m s)) (C : Comes call m s m' s' r) where
   pub comes-held : holds m' ≡ true
   comes-held = rw C.memory K.holding
 
@@ -125,10 +125,10 @@ module _ {call : Result Left} {m m' : List ℕ} {s s' : Numbers} {r : Arrival} (
 -- ---- the promise settles the outcome
 
 module _ (call : Result Left) (m : List ℕ) (s : Numbers) where
-  pub comes-exists : (m' : List ℕ) × (s' : Numbers) × (r : Arrival) × Comes call m s m' s' r
+  pub comes-exists : (m' : List ℕ) × (s' : Numbers) × (r : Result Arrival) × Comes call m s m' s' r
   comes-exists = (_, _, _, record { answer = refl; memory = refl; numbers = refl })
 
-  pub comes-only : {m' n' : List ℕ} {s' t' : Numbers} {r q : Arrival} → Comes call m s m' s' r → Comes call m s n' t' q → (m' ≡ n') × (s' ≡ t') × (r ≡ q)
+  pub comes-only : {m' n' : List ℕ} {s' t' : Numbers} {r q : Result Arrival} → Comes call m s m' s' r → Comes call m s n' t' q → (m' ≡ n') × (s' ≡ t') × (r ≡ q)
   comes-only A B = (A.memory ∙ sym B.memory, A.numbers ∙ sym B.numbers, A.answer ∙ sym B.answer)
 
 -- ---- wherever the table stands: memory of another length, or with other bytes behind it

@@ -13,6 +13,7 @@ use Rattle.refusals.specs.Refusals.{Result, and_then}
 use Rattle.table.specs.Tables.{Table}
 use Rattle.table.specs.Memory.{table_of, holds}
 use Rattle.table.proofs.Puts.{table_of-put}
+use Rattle.images.specs.declared.ImageRead.{ImageRead}
 use Rattle.images.specs.Images.{Image, image_words, read_image, Writable}
 use Rattle.images.specs.Steps.{loaded_by}
 use Rattle.images.proofs.ImageLaws.{image-read}
@@ -100,17 +101,17 @@ loading-as m s i = by-run (ltb s.run i.run) refl (eqb s.run i.run) refl
 
 -- ---- at each way out of the code; `after` are the numbers once the image is met
 
-module _ (m words : List ℕ) (s : Numbers) {after : Numbers} {run number switches marks count : ℕ} (h : holds m ≡ true) (l : conflict s ≡ false)
-    (T : ImageTold (read_image words) run number switches marks count) (M : after ≡ met s run number) where
+module _ (m words : List ℕ) (s : Numbers) {after : Numbers} {told : ImageRead} (h : holds m ≡ true) (l : conflict s ≡ false) (T : ImageTold (read_image words) told)
+    (M : after ≡ met s told.run told.number) where
   told-loading : loading m words s ≡ Ok (loaded m after T.read.value)
   told-loading = loading-image m words s h l T.read.is ∙ rw (M, T.same-run, T.same_number)
 
-  pub loads-repeat : is_taken after run number ≡ false → Loads m words s m after Repeat
+  pub loads-repeat : is_taken after told.run told.number ≡ false → Loads m words s m after (Ok Repeat)
   unfolding loaded
   loads-repeat k = comes-left (told-loading ∙ rw (← T.same-run, ← T.same_number, k)) refl refl refl
 
-  pub loads-taken : {m' : List ℕ} → is_taken after run number ≡ true → m' ≡ loaded_by (read_image words) m
-      → Loads m words s m' (record { n = number; h = after.h; run = run; highest = after.highest }) Taken
+  pub loads-taken : {m' : List ℕ} → is_taken after told.run told.number ≡ true → m' ≡ loaded_by (read_image words) m
+      → Loads m words s m' (record { n = told.number; h = after.h; run = told.run; highest = after.highest }) (Ok Taken)
   unfolding loaded takes loaded_by
   loads-taken k e =
       let call : loading m words s ≡ Ok (takes m after T.read.value) = told-loading ∙ rw (← T.same-run, ← T.same_number, k) in
@@ -119,9 +120,9 @@ module _ (m words : List ℕ) (s : Numbers) {after : Numbers} {run number switch
 -- ---- loading gives the written table
 
 -- an image that was written, where its run is higher, or the same with n below its number
-pub load-written : {m : List ℕ} {s : Numbers} {i : Image} {m' : List ℕ} {s' : Numbers} {r : Arrival} → holds m ≡ true → conflict s ≡ false → Writable i
+pub load-written : {m : List ℕ} {s : Numbers} {i : Image} {m' : List ℕ} {s' : Numbers} {r : Result Arrival} → holds m ≡ true → conflict s ≡ false → Writable i
     → is_taken s i.run i.number ≡ true → Loads m (image_words i) s m' s' r
-    → (r ≡ Taken) × (table_of m' ≡ i.table) × (s'.run ≡ i.run) × (s'.n ≡ i.number)
+    → (r ≡ Ok Taken) × (table_of m' ≡ i.table) × (s'.run ≡ i.run) × (s'.n ≡ i.number)
 unfolding loaded takes left_by is_taken
 load-written {m} {s} {i} h l W k L =
     let M = meets s i.run i.number in

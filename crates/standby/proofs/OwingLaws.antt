@@ -1,11 +1,10 @@
 -- Laws of what is owed: the report by the standby's numbers.
+use Rattle.std.specs.Prelude.{Ok}
 use Prim.Native.Nat.{ℕ, ◌-◌}
 use mathlib.Core.Path.{◌≡◌}
 use mathlib.Core.Bool.{true, false}
 use borrow.Author.Tests.{eq-eqb, ne_eqb}
-use Rattle.refusals.specs.declared.Refusal.TheVariants.{NoTable}
 use Rattle.standby.specs.declared.Numbers.{Numbers}
-use Rattle.standby.specs.declared.Owed.TheVariants.{Changes, Refused}
 use Rattle.standby.specs.Arriving.{conflict}
 use Rattle.standby.specs.Owing.{owed_of, owing}
 
@@ -18,10 +17,6 @@ module _ (s : Numbers) where
   unfolding owed_of
   owed-behind ne = rw (ne_eqb s.run s.highest ne)
 
-  pub owing-conflict : conflict s ≡ true → Refused NoTable ≡ owing s
-  unfolding owing
-  owing-conflict e = rw e
-
-  pub owing-exact : {k : ℕ} → conflict s ≡ false → k ≡ owed_of s → Changes k ≡ owing s
+  pub owing-exact : {k : ℕ} → conflict s ≡ false → k ≡ owed_of s → Ok k ≡ owing s
   unfolding owing
   owing-exact e f = rw (e, f)

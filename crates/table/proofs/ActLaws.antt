@@ -1,5 +1,5 @@
 -- Laws of acts: a table stays one, what memory has that acts left, and what the answer of carrying one out tells. Crates above cite these.
-use Rattle.std.specs.Prelude.{Option, None, Some}
+use Rattle.std.specs.Prelude.{Option, None, Some, Ok, Err}
 use Prim.Native.Nat.{ℕ, suc, ◌+◌, ◌≤◌}
 use mathlib.Core.Path.{◌≡◌, refl, sym, ap, ◌∙◌}
 use mathlib.Core.List.{List, [], ◌∷◌, ◌++◌}
@@ -10,14 +10,11 @@ use lib.Dec.{eqb}
 use borrow.Author.Tests.{leb-true}
 use Rattle.refusals.specs.declared.Refusal.{Refusal}
 use Rattle.refusals.specs.declared.Refusal.TheVariants.{TableFull}
+use Rattle.refusals.specs.Refusals.{Result}
 use Rattle.refusals.proofs.CauseLaws.{no-cause-head}
 use Rattle.paths.proofs.ComponentLaws.{and_left, and_right}
-use Rattle.table.specs.declared.Dropped.{Dropped}
-use Rattle.table.specs.declared.Dropped.TheVariants.{Prefixes, All}
 use Rattle.table.specs.declared.Kind.{Kind}
 use Rattle.table.specs.declared.Kind.TheVariants.{G, D, P, I}
-use Rattle.table.specs.declared.Outcome.{Outcome}
-use Rattle.table.specs.declared.Outcome.TheVariants.{Done, Refused}
 use Rattle.table.specs.Entries.{Entry, kind_number, is_granted}
 use Rattle.table.specs.Tables.{Table, granted, max_switches, path_bytes, is_entry, every, any, present, marks_of, is_table}
 use Rattle.table.specs.Acts.{
@@ -29,6 +26,8 @@ use Rattle.table.specs.Acts.{
   kept_unless,
   without,
   dropped_by,
+  starts_of,
+  every_path,
   dropping,
   is_act,
   act_overflows,
@@ -129,22 +128,22 @@ table-switched t v h e =
     parts-valid _ (record { few = old.few; bytes = old.bytes; each = old.each; switches = h; marks = old.marks })
 
 -- only grants are dropped
-pub dropped-grants : (which : Dropped) (q : List ℕ) (e : Entry) → dropped_by which q e ≡ true → is_granted e.kind ≡ true
+pub dropped-grants : (selected : List ℕ → Bool) (e : Entry) → dropped_by selected e ≡ true → is_granted e.kind ≡ true
 unfolding dropped_by
-dropped-grants which q e d = and_left (is_granted e.kind) _ d
+dropped-grants selected e d = and_left (is_granted e.kind) _ d
 
-table-dropped : (which : Dropped) (q : List ℕ) (t : Table) → is_table t ≡ true → is_table (dropping (dropped_by which q) t) ≡ true
-table-dropped which q = table-dropping (dropped_by which q) (dropped-grants which q)
+table-dropped : (selected : List ℕ → Bool) (t : Table) → is_table t ≡ true → is_table (dropping (dropped_by selected) t) ≡ true
+table-dropped selected = table-dropping (dropped_by selected) (dropped-grants selected)
 
 table-revoked : (t : Table) (q : List ℕ) → is_table t ≡ true → is_table (apply_act t (revoke q)) ≡ true
 unfolding apply_act
-table-revoked t q v = table-dropped Prefixes q t v
+table-revoked t q v = table-dropped (starts_of q) t v
 
 table-revoked-all : (t : Table) → is_table t ≡ true → is_table (apply_act t revoke_all) ≡ true
 unfolding apply_act
 table-revoked-all t v =
-    table-switched (dropping (dropped_by All []) t) _ (omega (arith, clear-less t.switches granted, (valid-parts t v).switches))
-    (table-dropped All [] t v)
+    table-switched (dropping (dropped_by every_path) t) _ (omega (arith, clear-less t.switches granted, (valid-parts t v).switches))
+    (table-dropped every_path t v)
 
 -- whatever the act
 pub table-acted : (t : Table) (a : Act) → is_table t ≡ true → is_act a ≡ true → act_overflows t a ≡ false → is_table (apply_act t a) ≡ true
@@ -201,19 +200,19 @@ pub no-cause-room : (t : Table) (a : Act) → room_cause t (Some a) ≡ None →
 unfolding room_cause
 no-cause-room t a e = no-cause-head (act_overflows t a) TableFull _ e
 
-pub outcome-done : (cause : Option Refusal) → outcome_of cause ≡ Done → cause ≡ None
+pub outcome-done : (cause : Option Refusal) → outcome_of cause ≡ Ok tt → cause ≡ None
 unfolding outcome_of
 outcome-done None e = refl
 outcome-done (Some cause) e = let z : ◌≡◌ {A = ℕ} 0 1 = cc in absurd (omega arith)
 
-pub outcome-refused : (cause : Option Refusal) {by : Refusal} → outcome_of cause ≡ Refused by → cause ≡ Some by
+pub outcome-refused : (cause : Option Refusal) {by : Refusal} → outcome_of cause ≡ Err by → cause ≡ Some by
 unfolding outcome_of
 outcome-refused None e = let z : ◌≡◌ {A = ℕ} 0 1 = cc in absurd (omega arith)
 outcome-refused (Some cause) e = cc
 
-module _ {act : Option Act} {m m' : List ℕ} {r : Outcome} (C : CarriesOut act m m' r) where
-  pub carried-done : r ≡ Done → room_cause (table_of m) act ≡ None
+module _ {act : Option Act} {m m' : List ℕ} {r : Result Unit} (C : CarriesOut act m m' r) where
+  pub carried-done : r ≡ Ok tt → room_cause (table_of m) act ≡ None
   carried-done e = outcome-done _ (sym C.outcome ∙ e)
 
-  pub carried-refused : {by : Refusal} → r ≡ Refused by → room_cause (table_of m) act ≡ Some by
+  pub carried-refused : {by : Refusal} → r ≡ Err by → room_cause (table_of m) act ≡ Some by
   carried-refused e = outcome-refused _ (sym C.outcome ∙ e)

@@ -10,8 +10,6 @@ use Rattle.refusals.specs.declared.Refusal.TheVariants.{NoTable}
 use Rattle.refusals.specs.Refusals.{first_cause, Result, and_then, unless, cause_of}
 use Rattle.refusals.proofs.CauseLaws.{Hands}
 use Rattle.paths.specs.Copying.{overwrite}
-use Rattle.table.specs.declared.Outcome.{Outcome}
-use Rattle.table.specs.declared.Outcome.TheVariants.{Done, Refused}
 use Rattle.table.specs.Tables.{Table, fresh}
 use Rattle.table.specs.Memory.{table_head, switches_at, marks_at, table_bytes, table_of, holds, encode, encode_all, put}
 use Rattle.table.specs.Carrying.{outcome_of}
@@ -49,15 +47,15 @@ unfolding put encode encode_all overwrite
 fresh-put m h = over-sets (0 ∷ 0 ∷ 0 ∷ 0 ∷ []) m 0 h
 
 module _ {m : List ℕ} where
-  pub makes_none : length m < table_bytes → MakesFresh m m (Refused NoTable)
+  pub makes_none : length m < table_bytes → MakesFresh m m (Err NoTable)
   unfolding outcome_of cause_of put_in
   makes_none h = record { outcome = rw (fresh-short m h); memory = rw (fresh-short m h) }
 
-  pub makes-fresh : {m' : List ℕ} → table_bytes ≤ length m → m' ≡ put fresh m → MakesFresh m m' Done
+  pub makes-fresh : {m' : List ℕ} → table_bytes ≤ length m → m' ≡ put fresh m → MakesFresh m m' (Ok tt)
   unfolding outcome_of cause_of put_in
   makes-fresh h q = record { outcome = rw (fresh-long m h); memory = rw (fresh-long m h) q }
 
 -- what the answer tells of memory that is large enough
-pub made-fresh : {m m' : List ℕ} {r : Outcome} → table_bytes ≤ length m → MakesFresh m m' r → m' ≡ put fresh m
+pub made-fresh : {m m' : List ℕ} {r : Result Unit} → table_bytes ≤ length m → MakesFresh m m' r → m' ≡ put fresh m
 unfolding put_in
 made-fresh {m} h M = M.memory ∙ rw (fresh-long m h)

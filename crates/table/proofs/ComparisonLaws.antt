@@ -9,10 +9,18 @@ use mir.Syntax.{Width, w8}
 use lib.Signed.{mag}
 use mir.Val.{SFits, to_z, of_z, hbits}
 use mir.Facts.{sfits_lit, to_z-of_z}
+use denote.Enum.Bare.{sameb}
+use Rattle.std.specs.declared.cmp.Ordering.{Ordering}
+use Rattle.std.specs.declared.cmp.Ordering.TheVariants.{Less, Equal, Greater}
+use Rattle.std.specs.Ordering.{nat_cmp, ordering_reverse}
+use Rattle.paths.specs.contracts.Relation.{the_type}
+use Rattle.paths.specs.declared.Comparison.{Comparison}
+use Rattle.paths.specs.declared.Relation.{Relation}
+use Rattle.paths.specs.declared.Relation.TheVariants as relation
 use Rattle.paths.specs.Components.{components}
-use Rattle.paths.specs.Relations.{is_prefix, path_order, number_order, or_else, in_turn, less, equal, greater}
-use Rattle.paths.proofs.RelationLaws.{number_order-turned, path_order-turned, Said}
-use Rattle.table.specs.Entries.{Entry, is_granted, kind_precedence, same_path, strictly_extends, compare_alike, granted_order, compare}
+use Rattle.paths.specs.Relations.{is_prefix, path_order, number_order, or_else, in_turn, less, equal, greater, relation, comparison}
+use Rattle.paths.proofs.RelationLaws.{number_order-turned, path_order-turned, Said, relation-said}
+use Rattle.table.specs.Entries.{Entry, is_granted, kind_precedence, same_path, strictly_extends, compare_alike, granted_order, compare, order_number}
 
 neg-neg : (x : ℤ) → neg_ℤ (neg_ℤ x) ≡ x
 neg-neg (pos zero) = refl
@@ -59,6 +67,34 @@ pub granted-said : (p q : List ℕ) {a b : Bool} {o : ℤ} → Said p q a b o �
 unfolding granted_order strictly_extends
 granted-said p q s = rw (s.prefix, s.extension)
 
+-- a grant as the old entry comes before an entry of another kind just where its path is an extension of the other's
+pub granted-related : (p q : List ℕ) {r : Comparison} → r ≡ comparison p q → granted_order p q ≡ cond (sameb the_type r.relation relation.Extension) less greater
+unfolding comparison
+granted-related p q e = rw e (go (relation p q) refl)
+  where
+    go : (x : Relation) → relation p q ≡ x → granted_order p q ≡ cond (sameb the_type x relation.Extension) less greater
+    go relation.Equal f = granted-said p q (relation-said p q _ f)
+    go relation.Prefix f = granted-said p q (relation-said p q _ f)
+    go relation.Extension f = granted-said p q (relation-said p q _ f)
+    go relation.Less f = granted-said p q (relation-said p q _ f)
+    go relation.Greater f = granted-said p q (relation-said p q _ f)
+
+-- what std's comparison of two numbers says
+pub order-numbers : (a b : ℕ) {o : Ordering} → o ≡ nat_cmp a b → order_number o ≡ number_order a b
+unfolding number_order
+order-numbers a b e = rw e (go (ltb a b) (eqb a b))
+  where
+    go : (below same : Bool) → order_number (cond below Less (cond same Equal Greater)) ≡ cond below less (cond same equal greater)
+    go true same = refl
+    go false true = refl
+    go false false = refl
+
+-- and its answer turned round
+pub order-turned : (o : Ordering) → order_number (ordering_reverse o) ≡ neg_ℤ (order_number o)
+order-turned Less = refl
+order-turned Equal = refl
+order-turned Greater = refl
+
 -- ---- and by whether the two kinds grant
 
 pub compare-by : (old new : Entry) {a b : Bool} → is_granted old.kind ≡ a → is_granted new.kind ≡ b
@@ -67,88 +103,7 @@ pub compare-by : (old new : Entry) {a b : Bool} → is_granted old.kind ≡ a �
 unfolding compare
 compare-by old new p q = rw (p, q)
 
--- ---- the sign
-
-pub data Sign : ℤ → Type 0 where
-  minus : Sign (negsuc 0)
-  none : Sign (pos 0)
-  plus : Sign (pos 1)
-
--- a grant with an entry of another kind is never equal, and its negative is a signed byte
-less-or-greater : (t : Bool) → Sign (cond t less greater)
-less-or-greater true = minus
-less-or-greater false = plus
-
-pub granted-sign : (p q : List ℕ) → Sign (granted_order p q)
-unfolding granted_order
-granted-sign p q = less-or-greater (strictly_extends p q)
-
--- the comparison is −1, 0 or 1
-number_by : (below same : Bool) → Sign (cond below less (cond same equal greater))
-number_by true same = minus
-number_by false true = none
-number_by false false = plus
-
-number-sign : (a b : ℕ) → Sign (number_order a b)
-unfolding number_order
-number-sign a b = number_by (ltb a b) (eqb a b)
-
-or-sign : {x y : ℤ} → Sign x → Sign y → Sign (or_else x y)
-unfolding or_else
-or-sign minus s = minus
-or-sign none s = s
-or-sign plus s = plus
-
-turn-sign : {A : Type 0} (order : A → A → ℤ) → ((x y : A) → Sign (order x y)) → (xs ys : List A) → Sign (in_turn order xs ys)
-unfolding in_turn
-turn-sign order h [] [] = none
-turn-sign order h [] (y ∷ ys) = minus
-turn-sign order h (x ∷ xs) [] = plus
-turn-sign order h (x ∷ xs) (y ∷ ys) = or-sign (h x y) (turn-sign order h xs ys)
-
-path-sign : (p q : List ℕ) → Sign (path_order p q)
-unfolding path_order
-path-sign p q = turn-sign (in_turn number_order) (turn-sign number_order number-sign) (components p) (components q)
-
-alike-sign-by : (same deeper higher : Bool) {n o : ℤ} → Sign n → Sign o → Sign (cond same n (cond deeper less (cond higher greater o)))
-alike-sign-by true deeper higher s t = s
-alike-sign-by false true higher s t = minus
-alike-sign-by false false true s t = plus
-alike-sign-by false false false s t = t
-
-alike-sign : (old new : Entry) → Sign (compare_alike old new)
-unfolding compare_alike
-alike-sign old new =
-    alike-sign-by (same_path old.path new.path) (strictly_extends old.path new.path) (strictly_extends new.path old.path)
-    (number-sign (kind_precedence old.kind) (kind_precedence new.kind)) (path-sign old.path new.path)
-
-negative-sign : {x : ℤ} → Sign x → Sign (neg_ℤ x)
-negative-sign minus = plus
-negative-sign none = none
-negative-sign plus = minus
-
-sign-by : (old new : Bool) {alike grant grant' : ℤ} → Sign alike → Sign grant → Sign grant'
-    → Sign (cond old (cond new alike grant) (cond new (neg_ℤ grant') alike))
-sign-by true true s t u = s
-sign-by true false s t u = t
-sign-by false true s t u = negative-sign u
-sign-by false false s t u = s
-
-pub compare_sign : (old new : Entry) → Sign (compare old new)
-unfolding compare
-compare_sign old new =
-    sign-by (is_granted old.kind) (is_granted new.kind) (alike-sign old new) (granted-sign old.path new.path)
-    (granted-sign new.path old.path)
-
-pub negative_fits : (x : ℤ) → Sign x → SFits w8 (pos 0 -ℤ to_z w8 (of_z w8 x))
-negative_fits x minus = sfits_lit tt
-negative_fits x none = sfits_lit tt
-negative_fits x plus = sfits_lit tt
-
-pub negative-is : (x : ℤ) → Sign x → to_z w8 (of_z w8 (pos 0 -ℤ to_z w8 (of_z w8 x))) ≡ neg_ℤ x
-negative-is x minus = refl
-negative-is x none = refl
-negative-is x plus = refl
+-- ---- signed numbers
 
 -- a signed number of any width that a call returned
 pub read_back : (w : Width) (x : ℤ) → mag x < 2 ^ hbits w → to_z w (of_z w x) ≡ x

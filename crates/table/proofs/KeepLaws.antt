@@ -7,7 +7,6 @@ use mathlib.Core.Bool.{Bool, true, false, or-true}
 use lib.Dec.{eqb}
 use Rattle.refusals.specs.declared.Refusal.{Refusal}
 use Rattle.refusals.specs.Refusals.{Result, and_then}
-use Rattle.table.specs.declared.Dropped.TheVariants.{Prefixes, All}
 use Rattle.table.specs.declared.Kind.{Kind}
 use Rattle.table.specs.declared.Kind.TheVariants.{D, P, I}
 use Rattle.table.specs.declared.Place.{Place}
@@ -15,7 +14,7 @@ use Rattle.table.specs.declared.Place.TheVariants.{Found, At}
 use Rattle.table.specs.Entries.{Entry, kind_number, is_granted}
 use Rattle.table.specs.Placing.{place, placed_at}
 use Rattle.table.specs.Tables.{Table, has, has_flag_denied, has_prompt_denied, has_flag_ignored, present, marks_of, is_table}
-use Rattle.table.specs.Acts.{Act, insert, set_switches, revoke, revoke_all, inserted, inserted_by, apply_act, apply_acts}
+use Rattle.table.specs.Acts.{Act, insert, set_switches, revoke, revoke_all, starts_of, every_path, inserted, inserted_by, apply_act, apply_acts}
 use Rattle.table.specs.Memory.{table_of, holds, do_acts}
 use Rattle.table.specs.Calls.{table_in}
 use Rattle.table.proofs.TableLaws.{any-more, marks_by, valid-parts}
@@ -34,8 +33,8 @@ act-present : (k : Kind) → is_granted k ≡ false → (t : Table) (a : Act) �
 unfolding apply_act inserted inserted_by
 act-present k g t (insert e) h = placed-present (place t.entries e) k t.entries e h
 act-present k g t (set_switches v) h = h
-act-present k g t (revoke q) h = present-without _ (dropped-grants Prefixes q) k g t.entries ∙ h
-act-present k g t revoke_all h = present-without _ (dropped-grants All []) k g t.entries ∙ h
+act-present k g t (revoke q) h = present-without _ (dropped-grants (starts_of q)) k g t.entries ∙ h
+act-present k g t revoke_all h = present-without _ (dropped-grants every_path) k g t.entries ∙ h
 
 acts-present : (k : Kind) → is_granted k ≡ false → (t : Table) (acts : List Act) → present k t.entries ≡ true → present k (apply_acts t acts).entries ≡ true
 unfolding apply_acts

@@ -1,4 +1,5 @@
 -- Laws of a listing: what it says is the table's, and the bytes that a table takes are the table.
+use Rattle.std.specs.Prelude.{None, Some}
 use Prim.Native.Nat.{ℕ, ◌+◌, ◌≤◌, ◌<◌}
 use mathlib.Core.Path.{◌≡◌, refl, sym, ap, ◌∙◌}
 use mathlib.Core.List.{List, ◌++◌}
@@ -7,7 +8,6 @@ use native.Mathlib.Omega.{arith}
 use lib.ListN.{length, take, drop, get_or}
 use borrow.Author.Tests.{lt-ltb, le-ltb}
 use Rattle.paths.specs.Components.{Bytes}
-use Rattle.table.specs.declared.Listed.TheVariants as listed-as
 use Rattle.table.specs.Entries.{Entry}
 use Rattle.table.specs.Tables.{max_entries}
 use Rattle.table.specs.Memory.{table_head, entry_head, table_bytes, word_at, next_at, offset_at, table_of, holds, encode, put}
@@ -44,7 +44,7 @@ used-same m m' b b' h h' e =
 pub count-few : (m : List ℕ) → holds m ≡ true → {n : ℕ} → n ≡ word_at m 0 → (n ≡ length (table_of m).entries) × (n ≤ max_entries)
 count-few m h e = (e ∙ sym (count_of m), omega (arith, e, (held m h).few))
 
-pub listed-none : (m : List ℕ) (place : ℕ) {count : ℕ} → count ≡ word_at m 0 → count ≤ place → listed-as.Nothing ≡ listed m place
+pub listed-none : (m : List ℕ) (place : ℕ) {count : ℕ} → count ≡ word_at m 0 → count ≤ place → None ≡ listed m place
 unfolding listed
 listed-none m place e p = rw (count_of m, ← e, le-ltb _ _ p)
 
@@ -54,14 +54,14 @@ module _ (m : List ℕ) (h : holds m ≡ true) (place : ℕ) {count at : ℕ} (e
   pub place_inside : next_at m at ≤ length m
   place_inside = rw f (rest-here (omega (arith, e)) (rest-drop m place (word_at m 0) table_head (omega (arith, e)) (rest-start m h))).inside
 
-  pub listed_here : listed_at m at ≡ listed m place
+  pub listed_here : Some (listed_at m at) ≡ listed m place
   unfolding listed
   listed_here = rw (f, count_of m, ← e, lt-ltb _ _ p)
 
 -- what is said of a place is the entry e there, and its path stands within the memory
 pub record Lists (m : List ℕ) (place : ℕ) (e : Entry) : Type 0 where
   pub start : ℕ
-  pub says : listed m place ≡ listed-as.Entry e.kind start (length e.path)
+  pub says : listed m place ≡ Some (record { kind = e.kind; at = start; size = length e.path })
   pub bytes : take (length e.path) (drop start m) ≡ e.path
   pub inside : start + length e.path ≤ length m
 

@@ -1,60 +1,40 @@
 -- Laws of the functions that place an entry: the search over memory turn by turn, the place that it gives, room, and the insert.
+use Rattle.std.specs.Prelude.{Some, Ok, Err}
+use Rattle.std.specs.declared.cmp.Ordering.{Ordering}
+use Rattle.std.specs.declared.cmp.Ordering.TheVariants.{Less, Equal, Greater}
+use Rattle.std.specs.Ordering.{is_le}
+use Rattle.refusals.specs.declared.Refusal.TheVariants.{TableFull}
 use Prim.Native.Nat.{ℕ, zero, suc, ◌+◌, ◌-◌, ◌*◌, ◌/◌, ◌≤◌, ◌<◌}
-use mathlib.Core.Path.{◌≡◌, refl, sym, ap, ◌∙◌, subst}
+use mathlib.Core.Path.{◌≡◌, refl, sym, ap, ◌∙◌}
 use mathlib.Core.List.{List, [], ◌∷◌}
-use mathlib.Core.Bool.{Bool, true, false, cond}
+use mathlib.Core.Bool.{Bool, true, false, not, cond}
 use native.Mathlib.Omega.{arith}
 use native.Mathlib.Decide.{dec_lt}
 use lib.ListN.{length, get_or}
 use lib.Dec.{leb}
 use lib.IntN.{ℤ, pos, negsuc}
-use mir.Syntax.{w8}
-use mir.Val.{of_z}
 use borrow.Author.Tests.{le-leb, lt-leb, le-ltb, lt-ltb}
 use Rattle.table.specs.declared.Place.TheVariants.{Found, At}
-use Rattle.table.specs.Entries.{Entry, compare}
+use Rattle.table.specs.Entries.{Entry, compare, order_number}
 use Rattle.table.specs.Placing.{is_after, search_from, search, place_by, place}
 use Rattle.table.specs.Tables.{max_entries, max_path_bytes, path_bytes}
-use Rattle.table.specs.Acts.{inserted_by, inserted, adds, would_add, has_room, overflows, apply_act}
+use Rattle.table.specs.Acts.{insert, act_overflows, inserted_by, inserted, adds, would_add, has_room, overflows, apply_act}
 use Rattle.table.specs.Memory.{table_head, entry_head, word_at, next_at, entry_at, entries_at, offset_at, table_of, are_within, holds, put, do_act}
-use Rattle.table.specs.Changing.{SearchEnds, InsertsEntry}
-use Rattle.table.proofs.ComparisonLaws.{Sign, minus, none, plus, compare_sign}
+use Rattle.table.specs.Carrying.{CarriesOut}
+use Rattle.table.specs.Changing.{SearchEnds}
+use Rattle.table.proofs.CarryingLaws.{carries-act, carries-full}
 use Rattle.table.proofs.PlacingLaws.{search-done, search-turn, search-inside}
 use Rattle.table.proofs.Within.{held, rest-start, rest-take, rest-drop, rest-here, length-entries}
 use Rattle.table.proofs.Codec.{length-encode_all, entries-size, offset-split, entry-nth}
 use Rattle.table.proofs.Puts.{count_of}
 
--- ---- a comparison, as the number that stands for it: 0, 1, or 255 for −1
+-- ---- a comparison that is not after
 
-after_one : {x : ℤ} → Sign x → of_z w8 x ≡ 1 → is_after x ≡ true
+after-order : (o : Ordering) {b : Bool} → is_le o ≡ b → is_after (order_number o) ≡ not b
 unfolding is_after
-after_one minus e = absurd (omega arith)
-after_one none e = absurd (omega arith)
-after_one plus e = refl
-
-after-else : {x : ℤ} → Sign x → (of_z w8 x ≡ 1 → ⊥) → is_after x ≡ false
-unfolding is_after
-after-else minus h = refl
-after-else none h = refl
-after-else plus h = absurd (h refl)
-
-place-equal : (base : ℕ) {x : ℤ} → Sign x → of_z w8 x ≡ 0 → place_by base x ≡ Found
-unfolding place_by
-place-equal base minus e = absurd (omega arith)
-place-equal base none e = refl
-place-equal base plus e = absurd (omega arith)
-
-place-before : (base : ℕ) {x : ℤ} → Sign x → of_z w8 x ≡ 1 → place_by base x ≡ At base
-unfolding place_by
-place-before base minus e = absurd (omega arith)
-place-before base none e = absurd (omega arith)
-place-before base plus e = refl
-
-place_after : (base : ℕ) {x : ℤ} → Sign x → (of_z w8 x ≡ 0 → ⊥) → (of_z w8 x ≡ 1 → ⊥) → place_by base x ≡ At (base + 1)
-unfolding place_by
-place_after base minus h k = refl
-place_after base none h k = absurd (h refl)
-place_after base plus h k = absurd (k refl)
+after-order Less e = rw (← e)
+after-order Equal e = rw (← e)
+after-order Greater e = rw (← e)
 
 -- ---- the entry at a place of the list
 
@@ -108,26 +88,23 @@ module _ {m : List ℕ} {e : Entry} {base at size : ℕ} (P : Probing m e base a
       ≡ search_from (table_of m).entries e (word_at m 0) (cond b base (base + size / 2)) (size - size / 2)
   half-goes b q = P.goes ∙ search-turn (table_of m).entries e (word_at m 0) base size more (omega arith) ∙ rw q
 
-  module _ {middle : ℕ} (q : middle ≡ offset_at m (size / 2) at) {x : ℤ} (r : x ≡ compare (entry_at m middle) e) where
-    half-sign : Sign x
-    half-sign = subst Sign (sym r) (compare_sign _ _)
+  module _ {middle : ℕ} (q : middle ≡ offset_at m (size / 2) at) (o : Ordering) (r : order_number o ≡ compare (entry_at m middle) e) where
+    half-after : {b : Bool} → is_le o ≡ b → is_after (compare (get_or (table_of m).entries (base + size / 2) e) e) ≡ not b
+    half-after l = rw (half-entry q, ← r) (after-order o l)
 
-    half-after : is_after (compare (get_or (table_of m).entries (base + size / 2) e) e) ≡ is_after x
-    half-after = rw (half-entry q, r)
-
-    -- the entry there compares 1, and the base stays
-    pub probing-stays : of_z w8 x ≡ 1 → Probing m e base at (size - size / 2)
-    probing-stays o = record {
+    -- the entry there comes after, and the base stays
+    pub probing-stays : is_le o ≡ false → Probing m e base at (size - size / 2)
+    probing-stays l = record {
       within = omega arith;
-      goes = half-goes true (half-after ∙ after_one half-sign o);
+      goes = half-goes true (half-after l);
       begins = P.begins;
     }
 
     -- it does not, and the base moves there
-    pub probing-moves : (of_z w8 x ≡ 1 → ⊥) → Probing m e (base + size / 2) middle (size - size / 2)
-    probing-moves o = record {
+    pub probing-moves : is_le o ≡ true → Probing m e (base + size / 2) middle (size - size / 2)
+    probing-moves l = record {
       within = omega arith;
-      goes = half-goes false (half-after ∙ after-else half-sign o);
+      goes = half-goes false (half-after l);
       begins = half-offset q;
     }
 
@@ -153,23 +130,10 @@ module _ {m : List ℕ} {e : Entry} {base at : ℕ} (S : SearchEnds m e base at)
   pub base-inside : holds m ≡ true → next_at m at ≤ length m
   base-inside h = rw S.begins (entry-inside m base base-below h)
 
-  module _ {x : ℤ} (r : x ≡ compare (entry_at m at) e) where
-    base-sign : Sign x
-    base-sign = subst Sign (sym r) (compare_sign _ _)
-
-    placed_by : place (table_of m).entries e ≡ place_by base x
-    placed_by =
-        place-some (table_of m).entries e (omega (arith, count_of m))
-        ∙ rw (← S.ends, entry-at m base base-below e, ← S.begins, ← r)
-
-    pub placed-found : of_z w8 x ≡ 0 → place (table_of m).entries e ≡ Found
-    placed-found o = placed_by ∙ place-equal base base-sign o
-
-    pub placed-before : of_z w8 x ≡ 1 → place (table_of m).entries e ≡ At base
-    placed-before o = placed_by ∙ place-before base base-sign o
-
-    pub placed-after : (of_z w8 x ≡ 0 → ⊥) → (of_z w8 x ≡ 1 → ⊥) → place (table_of m).entries e ≡ At (base + 1)
-    placed-after o p = placed_by ∙ place_after base base-sign o p
+  pub placed-by : (o : Ordering) → order_number o ≡ compare (entry_at m at) e → place (table_of m).entries e ≡ place_by base (order_number o)
+  placed-by o r =
+      place-some (table_of m).entries e (omega (arith, count_of m))
+      ∙ rw (← S.ends, entry-at m base base-below e, ← S.begins, ← r)
 
 by-inside : (base : ℕ) (x : ℤ) (k : ℕ) → place_by base x ≡ At k → k ≤ base + 1
 unfolding place_by
@@ -228,15 +192,16 @@ room_by m e {n} {end} {len} q h b l p =
 -- ---- the insert
 
 module _ (m : List ℕ) (e : Entry) where
-  pub inserts-found : {m' : List ℕ} → place (table_of m).entries e ≡ Found → m' ≡ put (inserted_by Found (table_of m) e) m → InsertsEntry m m' e true
-  unfolding overflows would_add adds apply_act inserted do_act
-  inserts-found p q = record { answer = rw p; bytes = rw p q }
+  pub inserts-found : {m' : List ℕ} → place (table_of m).entries e ≡ Found → m' ≡ put (inserted_by Found (table_of m) e) m
+      → CarriesOut (Some (insert e)) m m' (Ok tt)
+  unfolding act_overflows overflows would_add adds apply_act inserted do_act
+  inserts-found p q = carries-act refl (rw p) (rw p q)
 
-  pub inserts-full : {k : ℕ} → place (table_of m).entries e ≡ At k → has_room (table_of m) e ≡ false → InsertsEntry m m e false
-  unfolding overflows would_add adds
-  inserts-full p h = record { answer = rw (p, h); bytes = rw (p, h) }
+  pub inserts-full : {k : ℕ} → place (table_of m).entries e ≡ At k → has_room (table_of m) e ≡ false → CarriesOut (Some (insert e)) m m (Err TableFull)
+  unfolding act_overflows overflows would_add adds
+  inserts-full p h = carries-full (rw (p, h))
 
   pub inserts-added : {k : ℕ} {m' : List ℕ} → place (table_of m).entries e ≡ At k → has_room (table_of m) e ≡ true
-      → m' ≡ put (inserted_by (At k) (table_of m) e) m → InsertsEntry m m' e true
-  unfolding overflows would_add adds apply_act inserted do_act
-  inserts-added p h q = record { answer = rw (p, h); bytes = rw (p, h) q }
+      → m' ≡ put (inserted_by (At k) (table_of m) e) m → CarriesOut (Some (insert e)) m m' (Ok tt)
+  unfolding act_overflows overflows would_add adds apply_act inserted do_act
+  inserts-added p h q = carries-act refl (rw (p, h)) (rw p q)

@@ -8,8 +8,6 @@ use native.Mathlib.Omega.{arith}
 use native.Mathlib.Nat.{add-zero}
 use lib.ListN.{length, get_or, set, take, drop, length-append}
 use lib.Seq.{paste-zero, take_at, append_snoc, get_or-drop}
-use Rattle.table.specs.declared.Dropped.{Dropped}
-use Rattle.table.specs.declared.Dropped.TheVariants.{All}
 use Rattle.table.specs.Entries.{Entry, kind_of, is_granted}
 use Rattle.table.specs.Tables.{granted, clear_bit, max_entries}
 use Rattle.table.specs.Acts.{set_switches, revoke_all, kept_unless, without, selected, dropped_by, dropping, apply_act}

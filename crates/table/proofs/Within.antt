@@ -1,4 +1,5 @@
 -- What memory that holds a table has, and what a walk over its entries goes by.
+use Rattle.std.specs.Prelude.{None}
 use Prim.Native.Nat.{ℕ, zero, suc, ◌+◌, ◌-◌, ◌≤◌, ◌<◌}
 use mathlib.Core.Path.{◌≡◌, refl, sym, ap, ◌∙◌, subst}
 use mathlib.Core.List.{List, [], ◌∷◌}
@@ -11,7 +12,6 @@ use lib.Dec.{leb}
 use borrow.Author.Tests.{leb-true, le-leb, lt-leb}
 use Rattle.table.specs.declared.Kind.{Kind}
 use Rattle.table.specs.declared.Kind.TheVariants.{G, D, P, I}
-use Rattle.table.specs.declared.KindRead.TheVariants as kind-read
 use Rattle.table.specs.Entries.{kind_number, kind_of, is_kind, max_kind}
 use Rattle.table.specs.Tables.{max_entries, max_path_bytes, max_switches, path_bytes, is_entry, every, marks_of}
 use Rattle.table.specs.Memory.{
@@ -70,7 +70,7 @@ kind-bound (suc (suc zero)) = refl
 kind-bound (suc (suc (suc zero))) = refl
 kind-bound (suc (suc (suc (suc n)))) = let h : max_kind < suc (suc (suc (suc n))) = omega arith in sym (lt-leb _ _ h)
 
-pub kind-unknown : (n : ℕ) → max_kind < n → kind_of n ≡ kind-read.Unknown
+pub kind-unknown : (n : ℕ) → max_kind < n → kind_of n ≡ None
 unfolding kind_of
 kind-unknown zero h = absurd (omega arith)
 kind-unknown (suc zero) h = absurd (omega arith)

@@ -17,10 +17,7 @@ pub fn set_bit(n: u8, bit: u8) -> u8
     requires { (0 < bit) × (n + bit < 256) }
     ensures { result ≡ set_bit n bit }
 {
-    if has(n, bit) {
-        return n;
-    }
-    n + bit
+    if has(n, bit) { n } else { n + bit }
 }
 
 // The number without the bit.
@@ -28,10 +25,7 @@ pub fn clear_bit(n: u8, bit: u8) -> u8
     requires { 0 < bit }
     ensures { result ≡ clear_bit n bit }
 {
-    if has(n, bit) {
-        return n - bit;
-    }
-    n
+    if has(n, bit) { n - bit } else { n }
 }
 
 // The marks when an entry of a kind is inserted; each mark is set at most once.

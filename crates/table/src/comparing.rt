@@ -1,23 +1,17 @@
-// The comparison of an old and a new entry, as a signed number: −1 where the old one comes before, 1 where it comes after, 0 where they
-// are equal.
+// The comparison of an old and a new entry: `Less` where the old one comes before, `Greater` where it comes after, `Equal` where they are equal.
 ghost use Rattle.std.specs.Prelude.{◌≡◌};
-ghost use Rattle.paths.specs.Relations.{number_order};
-ghost use Rattle.table.specs.Entries.{is_granted, kind_precedence, compare_alike, granted_order, compare};
+ghost use Rattle.table.specs.Entries.{is_granted, kind_precedence, compare_alike, granted_order, compare, order_number};
 
 use crate::Kind;
 use paths::Relation;
 use paths::relating::relate;
+use std::cmp::Ordering;
 
 // Whether entries of a kind grant.
 pub fn is_granted(kind: Kind) -> bool
     ensures { result ≡ is_granted kind }
 {
-    match kind {
-        Kind::G => true,
-        Kind::D => false,
-        Kind::P => false,
-        Kind::I => false,
-    }
+    kind == Kind::G
 }
 
 // The rank of a kind among entries with one path.
@@ -32,60 +26,35 @@ fn kind_precedence(kind: Kind) -> u8
     }
 }
 
-fn number_order(a: u8, b: u8) -> i8
-    ensures { result ≡ number_order a b }
-{
-    if a < b {
-        return -1;
-    }
-    if a == b {
-        return 0;
-    }
-    1
-}
-
 // A grant with a grant, or two of the other kinds.
-fn compare_alike(old: Kind, old_path: &[u8], new: Kind, new_path: &[u8]) -> i8
-    ensures { result ≡ compare_alike (record { kind = old; path = old_path.now }) (record { kind = new; path = new_path.now }) }
+fn compare_alike(old: Kind, old_path: &[u8], new: Kind, new_path: &[u8]) -> Ordering
+    ensures { order_number result ≡ compare_alike (record { kind = old; path = old_path.now }) (record { kind = new; path = new_path.now }) }
 {
-    let compared = relate(old_path, new_path);
-    let relation = compared.relation;
-    match relation {
-        Relation::Equal => number_order(kind_precedence(old), kind_precedence(new)),
-        Relation::Prefix => 1,
-        Relation::Extension => -1,
-        Relation::Less => -1,
-        Relation::Greater => 1,
+    match relate(old_path, new_path).relation {
+        Relation::Equal => kind_precedence(old).cmp(&kind_precedence(new)),
+        Relation::Extension | Relation::Less => Ordering::Less,
+        Relation::Prefix | Relation::Greater => Ordering::Greater,
     }
 }
 
 // The path of a grant, as the old entry, with that of an entry of another kind.
-fn compare_granted(old_path: &[u8], new_path: &[u8]) -> i8
-    ensures { result ≡ granted_order old_path.now new_path.now }
+fn compare_granted(old_path: &[u8], new_path: &[u8]) -> Ordering
+    ensures { order_number result ≡ granted_order old_path.now new_path.now }
 {
-    let compared = relate(old_path, new_path);
-    let relation = compared.relation;
-    match relation {
-        Relation::Extension => -1,
-        Relation::Equal => 1,
-        Relation::Prefix => 1,
-        Relation::Less => 1,
-        Relation::Greater => 1,
+    if relate(old_path, new_path).relation == Relation::Extension {
+        Ordering::Less
+    } else {
+        Ordering::Greater
     }
 }
 
 // An old entry with a new one.
-pub(crate) fn compare(old: Kind, old_path: &[u8], new: Kind, new_path: &[u8]) -> i8
-    ensures { result ≡ compare (record { kind = old; path = old_path.now }) (record { kind = new; path = new_path.now }) }
+pub(crate) fn compare(old: Kind, old_path: &[u8], new: Kind, new_path: &[u8]) -> Ordering
+    ensures { order_number result ≡ compare (record { kind = old; path = old_path.now }) (record { kind = new; path = new_path.now }) }
 {
-    if is_granted(old) {
-        if is_granted(new) {
-            return compare_alike(old, old_path, new, new_path);
-        }
-        return compare_granted(old_path, new_path);
+    match (is_granted(old), is_granted(new)) {
+        (true, false) => compare_granted(old_path, new_path),
+        (false, true) => compare_granted(new_path, old_path).reverse(),
+        _ => compare_alike(old, old_path, new, new_path),
     }
-    if is_granted(new) {
-        return -compare_granted(new_path, old_path);
-    }
-    compare_alike(old, old_path, new, new_path)
 }

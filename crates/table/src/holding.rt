@@ -50,11 +50,5 @@ pub fn holds_table(mem: &[u8]) -> bool
         return false;
     }
     let count = word_at(mem, 0);
-    if count > MAX_ENTRIES {
-        return false;
-    }
-    if mem[SWITCHES_AT] > MAX_SWITCHES {
-        return false;
-    }
-    entries_fit(mem, count)
+    count <= MAX_ENTRIES && mem[SWITCHES_AT] <= MAX_SWITCHES && entries_fit(mem, count)
 }

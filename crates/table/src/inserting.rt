@@ -1,10 +1,10 @@
 // Inserting: an entry at its place, and the mark of its kind. Scope, "Placing an entry".
-ghost use Rattle.std.specs.Prelude.{◌≡◌, true, List, ℕ, ◌+◌, ◌<◌, ◌≤◌, length};
+ghost use Rattle.std.specs.Prelude.{◌≡◌, true, Some, List, ℕ, ◌+◌, ◌<◌, ◌≤◌, length};
 ghost use Rattle.table.specs.declared.Place.TheVariants.{Found, At};
 ghost use Rattle.table.specs.Tables.{max_entries, max_path_bytes, path_bytes, is_entry};
-ghost use Rattle.table.specs.Acts.{inserted_by};
+ghost use Rattle.table.specs.Acts.{insert, inserted_by};
 ghost use Rattle.table.specs.Memory.{word_at, table_of, holds, put};
-ghost use Rattle.table.specs.Changing.{InsertsEntry};
+ghost use Rattle.table.specs.Carrying.{CarriesOut};
 
 use crate::bits::marked;
 use crate::{ENTRY_HEAD, Kind, MARKS_AT, Place, placing, reading, writing};
@@ -39,7 +39,7 @@ fn insert_at(mem: &mut [u8], place: usize, kind: Kind, path: &[u8])
 pub(crate) fn insert_entry(mem: &mut [u8], kind: Kind, path: &[u8]) -> Result<(), Refusal>
     requires mem_value { holds mem.old ≡ true }
     requires path_value { is_entry (record { kind = kind; path = path.now }) ≡ true }
-    ensures { InsertsEntry mem.old mem.new (record { kind = kind; path = path.now }) result }
+    ensures { CarriesOut (Some (insert (record { kind = kind; path = path.now }))) mem.old mem.new result }
 {
     match placing::place(mem, kind, path) {
         Place::Found => set_mark(mem, kind),

@@ -1,12 +1,13 @@
 // Placing an entry: where it goes in the list, and whether there is room for it. Scope, "Placing an entry".
 ghost use Rattle.std.specs.Prelude.{◌≡◌, true, ◌≤◌, length};
-ghost use Rattle.table.specs.Entries.{Entry, compare};
+ghost use Rattle.table.specs.Entries.{Entry, compare, order_number};
 ghost use Rattle.table.specs.Placing.{place};
 ghost use Rattle.table.specs.Acts.{has_room, overflows};
 ghost use Rattle.table.specs.Memory.{next_at, entry_at, table_of, holds};
 ghost use Rattle.table.specs.Changing.{SearchEnds};
 
 use crate::{ENTRY_HEAD, Kind, MAX_ENTRIES, MAX_PATH_BYTES, Place, TABLE_HEAD, comparing, reading};
+use std::cmp::Ordering;
 
 // Where a search ends: a place of the list, and where the entry there begins.
 #[derive(Clone, Copy)]
@@ -16,9 +17,9 @@ struct Probe {
 }
 
 // The entry at an offset with a new one.
-fn compare_at(mem: &[u8], at: usize, kind: Kind, path: &[u8]) -> i8
+fn compare_at(mem: &[u8], at: usize, kind: Kind, path: &[u8]) -> Ordering
     requires { next_at mem.now at ≤ length mem.now }
-    ensures { result ≡ compare (entry_at mem.now at) (record { kind = kind; path = path.now }) }
+    ensures { order_number result ≡ compare (entry_at mem.now at) (record { kind = kind; path = path.now }) }
 {
     comparing::compare(
         reading::kind_from(mem[at]),
@@ -33,14 +34,14 @@ fn search(mem: &[u8], kind: Kind, path: &[u8]) -> Probe
     requires { holds mem.now ≡ true }
     ensures { SearchEnds mem.now (record { kind = kind; path = path.now }) result.base result.at }
 {
-    let mut base: usize = 0;
-    let mut at: usize = TABLE_HEAD;
+    let mut base = 0;
+    let mut at = TABLE_HEAD;
     let mut size = reading::word_at(mem, 0);
     while size > 1 {
         let half = size / 2;
         let middle = reading::hop(mem, at, half);
         size -= half;
-        if compare_at(mem, middle, kind, path) != 1 {
+        if compare_at(mem, middle, kind, path).is_le() {
             base += half;
             at = middle;
         }
@@ -57,16 +58,11 @@ pub(crate) fn place(mem: &[u8], kind: Kind, path: &[u8]) -> Place
         return Place::At(0);
     }
     let found = search(mem, kind, path);
-    let base = found.base;
-    let at = found.at;
-    let order = compare_at(mem, at, kind, path);
-    if order == 0 {
-        return Place::Found;
+    match compare_at(mem, found.at, kind, path) {
+        Ordering::Less => Place::At(found.base + 1),
+        Ordering::Equal => Place::Found,
+        Ordering::Greater => Place::At(found.base),
     }
-    if order == 1 {
-        return Place::At(base);
-    }
-    Place::At(base + 1)
 }
 
 // Whether there is room for one entry more, with a path of `len` bytes.

@@ -8,19 +8,12 @@ use crate::{Cursor, ENTRY_HEAD, Kind, LENGTH_OFFSET, MARKS_AT, SWITCHES_AT, TABL
 
 // ---- bytes
 
-// A byte as a size.
-pub fn wide(x: u8) -> usize
-    ensures { (result ≡ x) × (result < 256) }
-{
-    x as usize
-}
-
 // The number in two bytes, high byte first.
 pub fn word_at(mem: &[u8], at: usize) -> usize
     requires { at + 1 < length mem.now }
     ensures { (result ≡ word_at mem.now at) × (result < 65536) }
 {
-    wide(mem[at]) * 256 + wide(mem[at + 1])
+    u16::from_be_bytes([mem[at], mem[at + 1]]) as usize
 }
 
 // The kind of a kind byte.
@@ -126,8 +119,7 @@ pub fn kind(mem: &[u8], cursor: Cursor) -> Kind
     requires { Reads mem.now cursor }
     ensures { result ≡ (entry_in mem.now cursor).kind }
 {
-    let at = cursor.at;
-    kind_from(mem[at])
+    kind_from(mem[cursor.at])
 }
 
 // Its path.
@@ -135,8 +127,7 @@ pub fn path(mem: &[u8], cursor: Cursor) -> &[u8]
     requires { Reads mem.now cursor }
     ensures { result.now ≡ (entry_in mem.now cursor).path }
 {
-    let at = cursor.at;
-    entry_path(mem, at)
+    entry_path(mem, cursor.at)
 }
 
 // The next place of the list.
@@ -144,10 +135,8 @@ pub fn advance(mem: &[u8], cursor: Cursor) -> Cursor
     requires { Reads mem.now cursor }
     ensures { result ≡ next_entry mem.now cursor }
 {
-    let at = cursor.at;
-    let len = word_at(mem, at + LENGTH_OFFSET);
     Cursor {
-        at: at + ENTRY_HEAD + len,
+        at: cursor.at + ENTRY_HEAD + word_at(mem, cursor.at + LENGTH_OFFSET),
         left: cursor.left - 1,
     }
 }

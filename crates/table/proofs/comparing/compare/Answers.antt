@@ -1,29 +1,26 @@
 -- `compare` meets its contract, by whether the two kinds grant; the turned-round question is negated.
-use mathlib.Core.Path.{sym, ap, subst, ◌∙◌}
+use mathlib.Core.Path.{sym, ap, ◌∙◌}
+use mathlib.Core.Bool.{true, false}
 use lib.IntN.{neg_ℤ}
-use mir.Syntax.{w8}
-use Rattle.table.proofs.ComparisonLaws.{compare-by, Sign, granted-sign, negative_fits, negative-is, read_back}
+use Rattle.std.proofs.Common.{rules}
+use Rattle.table.specs.Entries.{order_number}
+use Rattle.table.proofs.ComparisonLaws.{order-turned, compare-by}
 use Rattle.table.proofs.comparing.compare.Goals as goal
+use Rattle.table.proofs.comparing.compare.Goals.{in_default-via-then-is_granted+then-is_granted-2, in_default-via-else-is_granted+else-this}
 
-pub returns-then-is_granted-2 : goal.returns-then-is_granted-2
-returns-then-is_granted-2 c =
-    read_back w8 _ c.compare_alike.type_inv ∙ c.compare_alike.ensures
-    ∙ sym (compare-by _ _ (sym c.is_granted.ensures ∙ c.if-is_granted.true) (sym c.is_granted-then-is_granted.ensures ∙ c.if-is_granted-2.true))
+pub returns-in-true-false : goal.returns-in-true-false
+returns-in-true-false c =
+    c.compare_granted.ensures ∙ sym (compare-by _ _ (sym c.in-true-false.ensures) (sym c.in-true-false.ensures'))
 
-pub returns-then-is_granted : goal.returns-then-is_granted
-returns-then-is_granted c =
-    read_back w8 _ c.compare_granted.type_inv ∙ c.compare_granted.ensures
-    ∙ sym (compare-by _ _ (sym c.is_granted.ensures ∙ c.if-is_granted.true) (sym c.is_granted-then-is_granted.ensures ∙ c.if-is_granted-2.false))
+pub returns-in-false-true : goal.returns-in-false-true
+returns-in-false-true c =
+    ap order_number c.reverse.ensures ∙ order-turned _ ∙ ap neg_ℤ c.compare_granted-in-false-true.ensures
+    ∙ sym (compare-by _ _ (sym c.in-false-true.ensures) (sym c.in-false-true.ensures'))
 
-pub overflow_sub-result : goal.overflow_sub-result
-overflow_sub-result c = negative_fits _ (subst Sign (sym c.compare_granted-then-is_granted-3.ensures) (granted-sign _ _))
-
-pub returns-then-is_granted-3 : goal.returns-then-is_granted-3
-returns-then-is_granted-3 c =
-    negative-is _ (subst Sign (sym c.compare_granted-then-is_granted-3.ensures) (granted-sign _ _)) ∙ ap neg_ℤ c.compare_granted-then-is_granted-3.ensures
-    ∙ sym (compare-by _ _ (sym c.is_granted.ensures ∙ c.if-is_granted.false) (sym c.is_granted-2.ensures ∙ c.if-is_granted-3.true))
-
-pub returns : goal.returns
-returns c =
-    read_back w8 _ c.compare_alike-2.type_inv ∙ c.compare_alike-2.ensures
-    ∙ sym (compare-by _ _ (sym c.is_granted.ensures ∙ c.if-is_granted.false) (sym c.is_granted-2.ensures ∙ c.if-is_granted-3.false))
+pub returns-in_default : goal.returns-in_default
+returns-in_default c =
+    c.compare_alike.ensures
+    ∙ elim c.in_default.branch [
+      in_default-via-then-is_granted+then-is_granted-2 w ↦ sym (compare-by _ _ {a = true} {b = true} (search rules) (search rules))
+      | in_default-via-else-is_granted+else-this w ↦ sym (compare-by _ _ {a = false} {b = false} (search rules) (search rules))
+    ]

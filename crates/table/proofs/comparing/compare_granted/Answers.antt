@@ -1,20 +1,12 @@
--- `compare_granted` meets its contract: each answer of `relate` gives the order.
-use mathlib.Core.Path.{sym}
-use Rattle.paths.proofs.RelationLaws.{compared-said}
-use Rattle.table.proofs.ComparisonLaws.{granted-said}
+-- `compare_granted` meets its contract: the order goes by whether `relate` finds an extension.
+use mathlib.Core.Path.{sym, ap, ◌∙◌}
+use mathlib.Core.Bool.{Bool, cond}
+use Rattle.paths.specs.Relations.{less, greater}
+use Rattle.table.proofs.ComparisonLaws.{granted-related}
 use Rattle.table.proofs.comparing.compare_granted.Goals as goal
 
-pub returns-in-Extension : goal.returns-in-Extension
-returns-in-Extension c = sym (granted-said _ _ (compared-said c.relate-compared.ensures c.in-Extension.is))
+pub returns-then-eq : goal.returns-then-eq
+returns-then-eq c = sym (granted-related _ _ c.relate.ensures ∙ ap (λ (b : Bool). cond b less greater) (sym c.eq.ensures ∙ c.if-eq.true))
 
-pub returns-in-Equal : goal.returns-in-Equal
-returns-in-Equal c = sym (granted-said _ _ (compared-said c.relate-compared.ensures c.in-Equal.is))
-
-pub returns-in-Prefix : goal.returns-in-Prefix
-returns-in-Prefix c = sym (granted-said _ _ (compared-said c.relate-compared.ensures c.in-Prefix.is))
-
-pub returns-in-Less : goal.returns-in-Less
-returns-in-Less c = sym (granted-said _ _ (compared-said c.relate-compared.ensures c.in-Less.is))
-
-pub returns-in-Greater : goal.returns-in-Greater
-returns-in-Greater c = sym (granted-said _ _ (compared-said c.relate-compared.ensures c.in-Greater.is))
+pub returns-else-eq : goal.returns-else-eq
+returns-else-eq c = sym (granted-related _ _ c.relate.ensures ∙ ap (λ (b : Bool). cond b less greater) (sym c.eq.ensures ∙ c.if-eq.false))

@@ -2,7 +2,8 @@
 use native.Mathlib.Omega.{arith}
 use mathlib.Core.Path.{sym, ◌∙◌}
 use Rattle.table.proofs.Within.{held}
-use Rattle.table.proofs.ProbeLaws.{base-below, base-inside, place_none, placed-found, placed-before, placed-after}
+use Rattle.table.specs.Placing.{place_by}
+use Rattle.table.proofs.ProbeLaws.{place_none, base-below, base-inside, placed-by}
 use Rattle.table.proofs.placing.place.Goals as goal
 
 pub word_at-requires : goal.word_at-requires
@@ -11,21 +12,21 @@ word_at-requires c = omega (arith, (held _ c.requires).long)
 pub returns-then-word_at-eq0 : goal.returns-then-word_at-eq0
 returns-then-word_at-eq0 c = sym (place_none _ _ (sym c.word_at.ensures.0 ∙ c.if-word_at-eq0.true))
 
-pub compare_at-order-requires : goal.compare_at-order-requires
-compare_at-order-requires c = base-inside c.search-found.ensures (omega arith) c.requires
+pub compare_at-requires : goal.compare_at-requires
+compare_at-requires c = base-inside c.search-found.ensures (omega arith) c.requires
 
-pub returns-then-order-eq0 : goal.returns-then-order-eq0
-returns-then-order-eq0 c =
-    sym (placed-found c.search-found.ensures (omega arith) c.compare_at-order.ensures c.if-order-eq0.true)
-
-pub returns-then-order-eq1 : goal.returns-then-order-eq1
-returns-then-order-eq1 c =
-    sym (placed-before c.search-found.ensures (omega arith) c.compare_at-order.ensures c.if-order-eq1.true)
+pub returns-in-Less : goal.returns-in-Less
+unfolding place_by
+returns-in-Less c = sym (placed-by c.search-found.ensures (omega arith) _ c.compare_at.ensures ∙ rw c.in-Less.is)
 
 pub overflow_add-result : goal.overflow_add-result
 overflow_add-result c =
     omega (arith, base-below c.search-found.ensures (omega arith), (held _ c.requires).few)
 
-pub returns : goal.returns
-returns c =
-    sym (placed-after c.search-found.ensures (omega arith) c.compare_at-order.ensures c.if-order-eq0.false c.if-order-eq1.false)
+pub returns-in-Equal : goal.returns-in-Equal
+unfolding place_by
+returns-in-Equal c = sym (placed-by c.search-found.ensures (omega arith) _ c.compare_at.ensures ∙ rw c.in-Equal.is)
+
+pub returns-in-Greater : goal.returns-in-Greater
+unfolding place_by
+returns-in-Greater c = sym (placed-by c.search-found.ensures (omega arith) _ c.compare_at.ensures ∙ rw c.in-Greater.is)

@@ -1,3 +1,4 @@
+use mathlib.Core.Path.{sym, ◌∙◌}
 use native.Mathlib.Omega.{arith}
 use Rattle.table.proofs.Within.{held}
 use Rattle.table.proofs.ProbeLaws.{probing-start, probing-done, probing-stays, probing-moves, half-within, half-inside}
@@ -20,13 +21,13 @@ compare_at-requires c =
 pub overflow_add-base : goal.overflow_add-base
 overflow_add-base c = omega (arith, (held _ c.requires).few)
 
-pub loop-size-preserved-then-compare_at-ne1 : goal.loop-size-preserved-then-compare_at-ne1
-loop-size-preserved-then-compare_at-ne1 c =
-    probing-moves c.loop-size.invariant (omega arith) c.hop-middle.ensures c.compare_at.ensures c.if-compare_at-ne1.true
+pub loop-size-preserved-then-is_le : goal.loop-size-preserved-then-is_le
+loop-size-preserved-then-is_le c =
+    probing-moves c.loop-size.invariant (omega arith) c.hop-middle.ensures _ c.compare_at.ensures (sym c.is_le.ensures ∙ c.if-is_le.true)
 
 pub loop-size-preserved : goal.loop-size-preserved
 loop-size-preserved c =
-    probing-stays c.loop-size.invariant (omega arith) c.hop-middle.ensures c.compare_at.ensures c.if-compare_at-ne1.false
+    probing-stays c.loop-size.invariant (omega arith) c.hop-middle.ensures _ c.compare_at.ensures (sym c.is_le.ensures ∙ c.if-is_le.false)
 
 pub returns : goal.returns
 returns c = probing-done c.loop-size.invariant (omega arith)

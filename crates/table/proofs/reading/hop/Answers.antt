@@ -1,27 +1,35 @@
+use Prim.Native.Nat.{ℕ, ◌+◌, ◌-◌, ◌≤◌, ◌<◌}
+use mathlib.Core.Path.{◌≡◌, refl, sym, ◌∙◌}
 use native.Mathlib.Omega.{arith}
-use mathlib.Core.Path.{refl, sym, ◌∙◌}
+use lib.ListN.{length}
+use native.Mathlib.Nat.{sub-zero}
+use Rattle.table.specs.Memory.{entry_head, next_at}
 use Rattle.table.proofs.Within.{within-inside, within-next, offset_at-step, offset_at-none}
 use Rattle.table.proofs.reading.hop.Goals as goal
+use Rattle.table.proofs.reading.hop.Goals.{In-loop}
 
-pub loop-left-init : goal.loop-left-init
-loop-left-init c = (c.requires, refl)
+-- the entry at `at` lies within the memory
+inside : (c : In-loop) → next_at c.args.mem.now c.loop.at ≤ length c.args.mem.now
+inside c = within-inside _ _ (omega arith) _ c.loop.invariant.0
+
+pub loop-init : goal.loop-init
+loop-init c = rw (sub-zero c.args.n) (c.requires, refl)
 
 pub overflow_add-at : goal.overflow_add-at
-overflow_add-at c = omega (arith, within-inside _ _ c.loop-left-test.true _ c.loop-left.invariant.0)
+overflow_add-at c = omega (arith, inside (goal.at.overflow_add-at c).In-loop)
 
-pub word_at-len-requires : goal.word_at-len-requires
-word_at-len-requires c = omega (arith, within-inside _ _ c.loop-left-test.true _ c.loop-left.invariant.0)
+pub word_at-requires : goal.word_at-requires
+word_at-requires c = omega (arith, inside (goal.at.word_at-requires c).In-loop)
 
-pub overflow_add-at-in-loop-left : goal.overflow_add-at-in-loop-left
-overflow_add-at-in-loop-left c = omega (arith, within-inside _ _ c.loop-left-test.true _ c.loop-left.invariant.0)
+pub overflow_add-at-in-loop-2 : goal.overflow_add-at-in-loop-2
+overflow_add-at-in-loop-2 c = omega (arith, inside (goal.at.overflow_add-at-in-loop-2 c).In-loop)
 
-pub overflow_add-at-in-loop-left-2 : goal.overflow_add-at-in-loop-left-2
-overflow_add-at-in-loop-left-2 c = omega (arith, within-inside _ _ c.loop-left-test.true _ c.loop-left.invariant.0)
-
-pub loop-left-preserved : goal.loop-left-preserved
-loop-left-preserved c =
-    let more = c.loop-left-test.true in
-    rw c.word_at-len.ensures.0 (within-next _ _ more _ c.loop-left.invariant.0, c.loop-left.invariant.1 ∙ offset_at-step _ _ more _)
+pub loop-preserved : goal.loop-preserved
+loop-preserved c =
+    let some : 0 < c.args.n - c.loop.counter = omega arith in
+    let e : c.args.n - (c.loop.counter + 1) ≡ c.args.n - c.loop.counter - 1 = omega arith in
+    let at : c.loop.at + (entry_head + c.word_at.result) ≡ next_at c.args.mem.now c.loop.at = omega arith in
+    rw (e, at) (within-next _ _ some _ c.loop.invariant.0, c.loop.invariant.1 ∙ offset_at-step _ _ some _)
 
 pub returns : goal.returns
-returns c = sym (c.loop-left.invariant.1 ∙ offset_at-none _ _ _ c.loop-left-test.false)
+returns c = sym (c.loop.invariant.1 ∙ offset_at-none _ _ _ (omega arith))

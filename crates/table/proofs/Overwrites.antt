@@ -1,16 +1,15 @@
 -- Laws of `overwrite`: what lies around it, two that touch, stores that are one, and runs behind each other.
-use Prim.Native.Nat.{ℕ, ◌+◌, ◌/◌, ◌%◌, ◌≤◌}
+use Prim.Native.Nat.{ℕ, ◌+◌, ◌≤◌}
 use mathlib.Core.Path.{◌≡◌, sym, ap, subst, ◌∙◌}
 use mathlib.Core.List.{List, [], ◌∷◌, ◌++◌, append-nil, append_assoc}
 use native.Mathlib.Omega.{arith}
 use native.Mathlib.Nat.{add-zero, zero-add, add_assoc}
-use native.Mathlib.Numerals.{towards_suc}
 use lib.ListN.{length, take, drop, set, take-append-drop, length-append}
 use lib.Seq.{sets, sets-eq, drop_at, take-append-le, drop-append-add, take-take, drop-drop, length-take-le}
 use Rattle.paths.specs.Copying.{overwrite, begun, Appends}
 use Rattle.paths.proofs.CopyLaws.{length_front, take-over}
 use Rattle.table.specs.Entries.{Entry, kind_number}
-use Rattle.table.specs.Memory.{entry_head, encode_entry}
+use Rattle.table.specs.Memory.{table_head, entry_head, switches_at, marks_at, length_offset, word, head_bytes, encode_entry}
 
 pub over-sets : (vs l : List ℕ) (i : ℕ) → i + length vs ≤ length l → sets l i vs ≡ overwrite l i vs
 unfolding overwrite
@@ -66,18 +65,20 @@ over_below m at s s' h =
     (sym (append_assoc (take at m ++ s) s' _)
     ∙ ap (λ (l : List ℕ). l ++ drop (at + length s + length s') m) (append_assoc (take at m) s s'))
 
--- the bytes of an entry's head stored one by one, and then its path
-stores : (m : List ℕ) (at k a b : ℕ) → at + entry_head ≤ length m
-    → set (set (set m at k) (at + 1) a) (at + 2) b ≡ overwrite m at (k ∷ a ∷ b ∷ [])
-stores m at k a b h = simp towards_suc (over-sets (k ∷ a ∷ b ∷ []) m at h)
-
+-- one byte stored, two bytes behind it, and then a path
 pub written : (m : List ℕ) (at : ℕ) (e : Entry) (n : ℕ) → at + entry_head + length e.path ≤ length m → n ≡ kind_number e.kind
-    → overwrite (set (set (set m at n) (at + 1) (length e.path / 256)) (at + 2) (length e.path % 256)) (at + entry_head) e.path
-    ≡ overwrite m at (encode_entry e)
+    → overwrite (overwrite (set m at n) (at + length_offset) (word (length e.path))) (at + entry_head) e.path ≡ overwrite m at (encode_entry e)
 unfolding encode_entry
 written m at e n h k =
-    rw (stores m at n (length e.path / 256) (length e.path % 256) (omega arith), k)
-    (over-above m at (kind_number e.kind ∷ length e.path / 256 ∷ length e.path % 256 ∷ []) e.path (omega arith))
+    let first : set m at n ≡ overwrite m at (n ∷ []) = over-sets (n ∷ []) m at (omega arith) in
+    rw (first, over-above m at (n ∷ []) (word (length e.path)) (omega arith), k)
+    (over-above m at (kind_number e.kind ∷ word (length e.path)) e.path (omega arith))
+
+-- a table's head: the count, and then two bytes
+pub head-written : (m m' : List ℕ) (n a b : ℕ) → table_head ≤ length m → length m' ≡ length m → m' ≡ overwrite m 0 (word n)
+    → set (set m' switches_at a) marks_at b ≡ overwrite m 0 (head_bytes n a b)
+head-written m m' n a b h l q =
+    over-sets (a ∷ b ∷ []) m' 2 (omega arith) ∙ rw q (over-above m 0 (word n) (a ∷ b ∷ []) (omega arith))
 
 -- s is written from `at` on, and then the first two bytes of what lies before it
 pub headed : (m : List ℕ) (h₀ h₁ : ℕ) (l s : List ℕ) (at a b : ℕ) → take at m ≡ h₀ ∷ h₁ ∷ l → at ≤ length m

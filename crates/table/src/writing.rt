@@ -3,7 +3,7 @@ ghost use Rattle.std.specs.Prelude.{◌≡◌, ◌+◌, ◌<◌, ◌≤◌, leng
 ghost use Rattle.paths.specs.Copying.{overwrite, Appends};
 ghost use Rattle.table.specs.Memory.{table_head, entry_head, word, head_bytes, encode_entry};
 
-use crate::{ENTRY_HEAD, Kind, MARKS_AT, SWITCHES_AT};
+use crate::{ENTRY_HEAD, Kind, LENGTH_OFFSET, MARKS_AT, SWITCHES_AT};
 use paths::copying::copy_in;
 
 // Moves n bytes from an offset to another; the two runs of bytes may overlap.
@@ -14,13 +14,20 @@ pub fn move_bytes(mem: &mut [u8], from: usize, to: usize, n: usize)
     mem.copy_within(from..from + n, to);
 }
 
+// Writes a number into two bytes, high byte first.
+fn write_word(mem: &mut [u8], at: usize, n: usize)
+    requires { (n < 65536) × (at + 2 ≤ length mem.old) }
+    ensures { mem.new ≡ overwrite mem.old at (word n) }
+{
+    copy_in(mem, at, &(n as u16).to_be_bytes());
+}
+
 // Writes the count.
 pub(crate) fn set_count(mem: &mut [u8], n: usize)
     requires { (n < 65536) × (2 ≤ length mem.old) }
     ensures { mem.new ≡ overwrite mem.old 0 (word n) }
 {
-    mem[0] = (n / 256) as u8;
-    mem[1] = (n % 256) as u8;
+    write_word(mem, 0, n);
 }
 
 // Writes what stands before the entries: the count, the switches and the marks.
@@ -28,8 +35,7 @@ pub fn write_head(mem: &mut [u8], n: usize, switches: u8, marks: u8)
     requires { (n < 65536) × (table_head ≤ length mem.old) }
     ensures { mem.new ≡ overwrite mem.old 0 (head_bytes n switches marks) }
 {
-    mem[0] = (n / 256) as u8;
-    mem[1] = (n % 256) as u8;
+    set_count(mem, n);
     mem[SWITCHES_AT] = switches;
     mem[MARKS_AT] = marks;
 }
@@ -39,10 +45,8 @@ pub(crate) fn write_entry(mem: &mut [u8], at: usize, kind: Kind, path: &[u8])
     requires { (length path.now < 65536) × (at + entry_head + length path.now ≤ length mem.old) }
     ensures { mem.new ≡ overwrite mem.old at (encode_entry (record { kind = kind; path = path.now })) }
 {
-    let len = path.len();
     mem[at] = kind.into();
-    mem[at + 1] = (len / 256) as u8;
-    mem[at + 2] = (len % 256) as u8;
+    write_word(mem, at + LENGTH_OFFSET, path.len());
     copy_in(mem, at + ENTRY_HEAD, path);
 }
 

@@ -9,5 +9,5 @@ overflow_sub-result c = bit-within _ _ (sym c.has.ensures ∙ c.if-has.true)
 pub returns-then-has : goal.returns-then-has
 returns-then-has c = bit-cleared _ _ (sym c.has.ensures ∙ c.if-has.true)
 
-pub returns : goal.returns
-returns c = bit-clear _ _ (sym c.has.ensures ∙ c.if-has.false)
+pub returns-else-has : goal.returns-else-has
+returns-else-has c = bit-clear _ _ (sym c.has.ensures ∙ c.if-has.false)

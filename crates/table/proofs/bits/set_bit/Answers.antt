@@ -6,5 +6,5 @@ use Rattle.table.proofs.bits.set_bit.Goals as goal
 pub returns-then-has : goal.returns-then-has
 returns-then-has c = bit_kept _ _ (sym c.has.ensures ∙ c.if-has.true)
 
-pub returns : goal.returns
-returns c = bit_added _ _ (sym c.has.ensures ∙ c.if-has.false)
+pub returns-else-has : goal.returns-else-has
+returns-else-has c = bit_added _ _ (sym c.has.ensures ∙ c.if-has.false)

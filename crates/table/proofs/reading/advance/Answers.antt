@@ -4,11 +4,11 @@ use Rattle.table.specs.Reading.{next_entry}
 use Rattle.table.proofs.ReadingLaws.{here, some_left}
 use Rattle.table.proofs.reading.advance.Goals as goal
 
-pub overflow_add-at : goal.overflow_add-at
-overflow_add-at c = omega (arith, (here c.requires).inside)
+pub overflow_add-cursor : goal.overflow_add-cursor
+overflow_add-cursor c = omega (arith, (here c.requires).inside)
 
-pub word_at-len-requires : goal.word_at-len-requires
-word_at-len-requires c = omega (arith, (here c.requires).inside)
+pub word_at-requires : goal.word_at-requires
+word_at-requires c = omega (arith, (here c.requires).inside)
 
 pub overflow_add-result : goal.overflow_add-result
 overflow_add-result c = omega (arith, (here c.requires).inside)
@@ -21,4 +21,4 @@ overflow_sub-result c = omega (arith, some_left c.args.mem.now _ c.requires.more
 
 pub returns : goal.returns
 unfolding next_entry
-returns c = rw c.word_at-len.ensures.0
+returns c = rw c.word_at.ensures.0

@@ -4,8 +4,8 @@ use Rattle.table.specs.Reading.{entry_in}
 use Rattle.table.proofs.ReadingLaws.{here}
 use Rattle.table.proofs.reading.kind.Goals as goal
 
-pub bounds-mem-at : goal.bounds-mem-at
-bounds-mem-at c = omega (arith, (here c.requires).inside)
+pub bounds-mem-cursor : goal.bounds-mem-cursor
+bounds-mem-cursor c = omega (arith, (here c.requires).inside)
 
 pub returns : goal.returns
 unfolding entry_in

@@ -1,18 +1,6 @@
--- `write_head` meets its contract: its four stores are one run of bytes.
-use native.Mathlib.Omega.{arith}
-use lib.ListN.{length-set}
-use Rattle.table.specs.Memory.{head_bytes}
-use Rattle.table.proofs.Overwrites.{over-sets}
+-- `write_head` meets its contract: the count and its two stores are one run of bytes.
+use Rattle.table.proofs.Overwrites.{head-written}
 use Rattle.table.proofs.writing.write_head.Goals as goal
 
-pub bounds-mem-1 : goal.bounds-mem-1
-bounds-mem-1 c = simp length-set (omega arith)
-
-pub bounds-mem-2 : goal.bounds-mem-2
-bounds-mem-2 c = simp length-set (omega arith)
-
-pub bounds-mem-3 : goal.bounds-mem-3
-bounds-mem-3 c = simp length-set (omega arith)
-
 pub returns : goal.returns
-returns c = over-sets (head_bytes c.args.n c.args.switches c.args.marks) c.args.mem.now 0 c.requires.1
+returns c = head-written _ _ _ _ _ c.requires.1 c.set_count.auto.mem c.set_count.ensures

@@ -191,23 +191,14 @@ module _ (m : List ℕ) (long : table_bytes ≤ length m) (few : word_at m 0 ≤
 pub holds-short : (m : List ℕ) → length m < table_bytes → holds m ≡ false
 holds-short m h = false-by (λ e. omega (arith, (held m e).long))
 
-pub holds-many : (m : List ℕ) → max_entries < word_at m 0 → holds m ≡ false
-holds-many m h = false-by (λ e. omega (arith, (held m e).few))
-
-pub holds-high : (m : List ℕ) → max_switches < get_or m switches_at 0 → holds m ≡ false
-holds-high m h = false-by (λ e. omega (arith, (held m e).switches))
+pub holds-over : (m : List ℕ) → (word_at m 0 ≤ max_entries → get_or m switches_at 0 ≤ max_switches → ⊥) → holds m ≡ false
+holds-over m h = false-by (λ e. h (held m e).few (held m e).switches)
 
 -- ---- one entry that is tested
 
 module _ (m : List ℕ) (room at : ℕ) where
-  pub unfit-kind : max_kind < get_or m at 0 → entry_fits m room at ≡ false
-  unfit-kind h = false-by (λ e. omega (arith, (fits-parts m room at e).kind))
-
-  pub unfit-long : max_path < len_at m at → entry_fits m room at ≡ false
-  unfit-long h = false-by (λ e. omega (arith, (fits-parts m room at e).short))
-
-  pub unfit-room : room < len_at m at → entry_fits m room at ≡ false
-  unfit-room h = false-by (λ e. omega (arith, (fits-parts m room at e).roomy))
+  pub unfit : (get_or m at 0 ≤ max_kind → len_at m at ≤ max_path → len_at m at ≤ room → ⊥) → entry_fits m room at ≡ false
+  unfit h = false-by (λ e. let f = fits-parts m room at e in h f.kind f.short f.roomy)
 
   -- all but the path is in order
   pub fit-path : get_or m at 0 ≤ max_kind → len_at m at ≤ max_path → len_at m at ≤ room → is_resolved (entry_at m at).path ≡ entry_fits m room at

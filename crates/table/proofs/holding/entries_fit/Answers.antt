@@ -1,23 +1,29 @@
 use mathlib.Core.Path.{sym, ◌∙◌}
 use native.Mathlib.Omega.{arith}
+use Rattle.table.specs.Memory.{entry_head}
 use Rattle.table.proofs.ScanningLaws.{scans-start, scans-bad, scans-next, scans-end, fits-parts, mark_of}
+use Prim.Native.Nat.{ℕ, ◌+◌, ◌-◌, ◌<◌}
+use mathlib.Core.Path.{◌≡◌}
+use native.Mathlib.Nat.{sub-zero}
 use Rattle.table.proofs.holding.entries_fit.Goals as goal
 
-pub loop-left-init : goal.loop-left-init
-loop-left-init c = scans-start _ _ c.requires.0 c.requires.1
+pub loop-init : goal.loop-init
+loop-init c = rw (sub-zero c.args.count) (scans-start _ _ c.requires.0 c.requires.1)
 
 pub returns-then-not-entry_fits : goal.returns-then-not-entry_fits
 returns-then-not-entry_fits c =
-    scans-bad c.loop-left-test.true c.loop-left.invariant
+    scans-bad (omega arith) c.loop.invariant
     (sym c.entry_fits.ensures ∙ c.if-not-entry_fits.true)
 
 pub overflow_sub-room : goal.overflow_sub-room
 overflow_sub-room c = omega (arith, (fits-parts _ _ _ (sym c.entry_fits.ensures ∙ c.if-not-entry_fits.false)).roomy, c.word_at-len.ensures.0)
 
-pub loop-left-preserved : goal.loop-left-preserved
-loop-left-preserved c =
-    scans-next c.loop-left-test.true c.loop-left.invariant _ _ c.word_at-len.ensures.0
-    (mark_of _ c.marked-seen.ensures c.kind_from.ensures) (sym c.entry_fits.ensures ∙ c.if-not-entry_fits.false)
+pub loop-preserved : goal.loop-preserved
+loop-preserved c =
+    let e : c.args.count - (c.loop.counter + 1) ≡ c.args.count - c.loop.counter - 1 = omega arith in
+    let at : c.loop.at + (entry_head + c.word_at-len.result) ≡ c.loop.at + entry_head + c.word_at-len.result = omega arith in
+    rw (e, at) (scans-next (omega arith) c.loop.invariant _ _ c.word_at-len.ensures.0
+    (mark_of _ c.marked-seen.ensures c.kind_from.ensures) (sym c.entry_fits.ensures ∙ c.if-not-entry_fits.false))
 
 pub returns : goal.returns
-returns c = scans-end c.loop-left-test.false c.loop-left.invariant
+returns c = scans-end (omega arith) c.loop.invariant

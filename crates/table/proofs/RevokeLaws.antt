@@ -8,9 +8,13 @@ use native.Mathlib.Omega.{arith}
 use native.Mathlib.Nat.{add-zero}
 use lib.ListN.{length, get_or, set, take, drop, length-append}
 use lib.Seq.{paste-zero, take_at, append_snoc, get_or-drop}
-use Rattle.table.specs.Entries.{Entry, kind_of, is_granted}
+use denote.Enum.Bare.{sameb}
+use Rattle.table.specs.contracts.Kind.{the_type}
+use Rattle.table.specs.declared.Kind.{Kind}
+use Rattle.table.specs.declared.Kind.TheVariants.{G, D, P, I}
+use Rattle.table.specs.Entries.{Entry, is_granted}
 use Rattle.table.specs.Tables.{granted, clear_bit, max_entries}
-use Rattle.table.specs.Acts.{set_switches, revoke_all, kept_unless, without, selected, dropped_by, dropping, apply_act}
+use Rattle.table.specs.Acts.{set_switches, revoke_all, kept_unless, without, dropped_by, every_path, dropping, apply_act}
 use Rattle.table.specs.Memory.{
   table_head,
   entry_head,
@@ -20,8 +24,6 @@ use Rattle.table.specs.Memory.{
   word_at,
   len_at,
   next_at,
-  kind_in,
-  kind_from,
   entry_at,
   entries_at,
   offset_at,
@@ -45,29 +47,23 @@ use Rattle.paths.specs.Copying.{overwrite}
 
 -- ---- what a revoke drops
 
-grant-kind : (n : ℕ) → n ≡ 0 → is_granted (kind_from n) ≡ true
-unfolding kind_in kind_of
-grant-kind n h = rw h
+-- what `==` says of the kind of a grant
+pub same-grant : (k : Kind) → sameb the_type k G ≡ is_granted k
+same-grant G = refl
+same-grant D = refl
+same-grant P = refl
+same-grant I = refl
 
-other-kind : (n : ℕ) → (n ≡ 0 → ⊥) → is_granted (kind_from n) ≡ false
-unfolding kind_in kind_of
-other-kind zero h = absurd (h refl)
-other-kind (suc zero) h = refl
-other-kind (suc (suc zero)) h = refl
-other-kind (suc (suc (suc zero))) h = refl
-other-kind (suc (suc (suc (suc n)))) h = refl
-
-module _ (q m : List ℕ) (at : ℕ) where
+module _ (selected : List ℕ → Bool) (e : Entry) where
   -- an entry of another kind stays
-  pub stays : (which : Dropped) → (get_or m at 0 ≡ 0 → ⊥) → false ≡ dropped_by which q (entry_at m at)
+  pub stays : is_granted e.kind ≡ false → dropped_by selected e ≡ false
   unfolding dropped_by
-  stays which h = rw (other-kind (get_or m at 0) h)
+  stays h = rw h
 
-  -- a grant goes where it is selected
-  pub goes : {which told : Dropped} {r : Bool} → get_or m at 0 ≡ 0 → which ≡ told → r ≡ selected told q (entry_at m at)
-      → r ≡ dropped_by which q (entry_at m at)
+  -- a grant goes where its path is selected
+  pub goes : {r : Bool} → is_granted e.kind ≡ true → r ≡ selected e.path → dropped_by selected e ≡ r
   unfolding dropped_by
-  goes e w i = rw (grant-kind (get_or m at 0) e, w) i
+  goes h i = rw h (sym i)
 
 -- ---- one step
 
@@ -99,8 +95,9 @@ module _ (m s : List ℕ) (k : ℕ) (h : table_head + length s ≤ length m) (le
 
 -- ---- the loop
 
--- m₀ is the memory as it was, m as it is: ks are kept, from `table_head` up to `to`, and `left` entries are to come, from `from` on
-pub record Kept (dropped : Entry → Bool) (m₀ m : List ℕ) (left kept from to : ℕ) : Type 0 where
+-- m₀ is the memory as it was, m as it is: ks are kept, from `table_head` up to `to`, and `left` entries are to come, from `from` on; `Picks` says of which
+-- selections
+pub record Kept (Picks : (List ℕ → Bool) → Type 0) (m₀ m : List ℕ) (left kept from to : ℕ) : Type 0 where
   pub ks : List Entry
   pub rest : Rest m₀ left from
   pub order : to ≤ from
@@ -109,11 +106,12 @@ pub record Kept (dropped : Entry → Bool) (m₀ m : List ℕ) (left kept from t
   pub few : kept + left ≤ max_entries
   pub bytes : m ≡ overwrite m₀ table_head (encode_all ks)
   pub same : length m ≡ length m₀
-  pub all : without dropped (table_of m₀).entries ≡ ks ++ without dropped (entries_at m₀ left from)
+  pub all : (selected : List ℕ → Bool) → Picks selected
+      → without (dropped_by selected) (table_of m₀).entries ≡ ks ++ without (dropped_by selected) (entries_at m₀ left from)
 
-pub kept-start : (dropped : Entry → Bool) (m : List ℕ) → holds m ≡ true → Kept dropped m m (word_at m 0) 0 table_head table_head
+pub kept-start : (Picks : (List ℕ → Bool) → Type 0) (m : List ℕ) → holds m ≡ true → Kept Picks m m (word_at m 0) 0 table_head table_head
 unfolding encode_all overwrite table_of
-kept-start dropped m e = record {
+kept-start Picks m e = record {
   ks = [];
   rest = rest-start m e;
   order = omega arith;
@@ -122,10 +120,10 @@ kept-start dropped m e = record {
   few = omega (arith, (held m e).few);
   bytes = paste-zero m table_head [];
   same = refl;
-  all = refl;
+  all = λ selected p. refl;
 }
 
-module _ {dropped : Entry → Bool} {m₀ m : List ℕ} {left kept from to : ℕ} (h : 0 < left) (K : Kept dropped m₀ m left kept from to) where
+module _ {Picks : (List ℕ → Bool) → Type 0} {m₀ m : List ℕ} {left kept from to : ℕ} (h : 0 < left) (K : Kept Picks m₀ m left kept from to) where
   here : Here m₀ from
   here = rest-here h K.rest
 
@@ -152,9 +150,10 @@ module _ {dropped : Entry → Bool} {m₀ m : List ℕ} {left kept from to : ℕ
   next-at size e = omega (arith, same_len)
 
   -- it is dropped
-  pub kept-skip : (size : ℕ) (r : Bool) → size ≡ len_at m from + entry_head → r ≡ dropped (entry_at m from) → r ≡ true
-      → Kept dropped m₀ m (left - 1) kept (from + size) to
-  kept-skip size r e d z = record {
+  pub kept-skip : (size : ℕ) → size ≡ len_at m from + entry_head
+      → ((selected : List ℕ → Bool) → Picks selected → dropped_by selected (entry_at m from) ≡ true)
+      → Kept Picks m₀ m (left - 1) kept (from + size) to
+  kept-skip size e d = record {
     ks = K.ks;
     rest = rw (next-at size e) (rest-next h K.rest);
     order = omega (arith, K.order);
@@ -163,9 +162,10 @@ module _ {dropped : Entry → Bool} {m₀ m : List ℕ} {left kept from to : ℕ
     few = omega (arith, K.few);
     bytes = K.bytes;
     same = K.same;
-    all =
-        K.all
-        ∙ ap (λ (l : List Entry). K.ks ++ l) (rw (next-at size e) (without-hit dropped m₀ left h from (ap dropped same-entry ∙ sym d ∙ z)));
+    all = λ selected p.
+        K.all selected p
+        ∙ ap (λ (l : List Entry). K.ks ++ l)
+        (rw (next-at size e) (without-hit (dropped_by selected) m₀ left h from (ap (dropped_by selected) same-entry ∙ d selected p)));
   }
 
   module _ (size : ℕ) (e : size ≡ len_at m from + entry_head) where
@@ -178,10 +178,10 @@ module _ {dropped : Entry → Bool} {m₀ m : List ℕ} {left kept from to : ℕ
         ∙ take_at (encode_entry (entry_at m₀ from)) _ size next-size
 
     -- it is kept
-    pub kept_move : Bytes m₀ → (m' : List ℕ) (r : Bool) → r ≡ dropped (entry_at m from) → r ≡ false → m' ≡ overwrite m to (take size (drop from m))
-        → length m' ≡ length m → Kept dropped m₀ m' (left - 1) (kept + 1) (from + size) (to + size)
+    pub kept_move : Bytes m₀ → (m' : List ℕ) → ((selected : List ℕ → Bool) → Picks selected → dropped_by selected (entry_at m from) ≡ false)
+        → m' ≡ overwrite m to (take size (drop from m)) → length m' ≡ length m → Kept Picks m₀ m' (left - 1) (kept + 1) (from + size) (to + size)
     unfolding encode_all
-    kept_move b m' r d z q s =
+    kept_move b m' d q s =
         let x = entry_at m₀ from in
         let X = encode_entry x in
         let more : encode_all (K.ks ++ (x ∷ [])) ≡ encode_all K.ks ++ X =
@@ -196,18 +196,21 @@ module _ {dropped : Entry → Bool} {m₀ m : List ℕ} {left kept from to : ℕ
           few = omega (arith, K.few);
           bytes = q ∙ rw (next-bytes b, K.bytes, K.size, more) (over-above m₀ table_head (encode_all K.ks) X written);
           same = s ∙ K.same;
-          all =
-              K.all
-              ∙ ap (λ (l : List Entry). K.ks ++ l) (rw (next-at size e) (without-miss dropped m₀ left h from (ap dropped same-entry ∙ sym d ∙ z)))
+          all = λ selected p.
+              K.all selected p
+              ∙ ap (λ (l : List Entry). K.ks ++ l)
+              (rw (next-at size e) (without-miss (dropped_by selected) m₀ left h from (ap (dropped_by selected) same-entry ∙ d selected p)))
               ∙ sym (append_snoc K.ks x _);
         }
 
 -- at the end the count is written
-pub kept-end : (dropped : Entry → Bool) (m₀ m l : List ℕ) (left kept from to : ℕ) → Bytes m₀ → holds m₀ ≡ true → left ≤ 0
-    → Kept dropped m₀ m left kept from to → l ≡ overwrite m 0 (word kept) → l ≡ put (dropping dropped (table_of m₀)) m₀
+pub kept-end : {Picks : (List ℕ → Bool) → Type 0} (m₀ m l : List ℕ) (left kept from to : ℕ) → Bytes m₀ → holds m₀ ≡ true → left ≤ 0
+    → Kept Picks m₀ m left kept from to → l ≡ overwrite m 0 (word kept)
+    → (selected : List ℕ → Bool) → Picks selected → l ≡ put (dropping (dropped_by selected) (table_of m₀)) m₀
 unfolding put table_of without offset_at entries_at encode_all
-kept-end dropped m₀ m l left kept from to b hold none K q =
-    let es : without dropped (table_of m₀).entries ≡ K.ks = K.all ∙ rw (entries_at-none m₀ left from none) (append-nil K.ks) in
+kept-end m₀ m l left kept from to b hold none K q selected p =
+    let dropped = dropped_by selected in
+    let es : without dropped (table_of m₀).entries ≡ K.ks = K.all selected p ∙ rw (entries_at-none m₀ left from none) (append-nil K.ks) in
     let e : encode (dropping dropped (table_of m₀)) ≡ head_bytes kept (get_or m₀ switches_at 0) (get_or m₀ marks_at 0) ++ encode_all K.ks =
     head_of (dropping dropped (table_of m₀)) kept (encode_all K.ks) _ _ (ap length es ∙ sym K.count) (ap encode_all es) refl refl
     in
@@ -225,7 +228,7 @@ switch-law m l v b h q = q ∙ ap (λ (l : List ℕ). set l switches_at v) (sym 
 -- ---- every grant
 
 -- every grant is dropped, and then the switch is cleared
-pub revoke-all-law : (m l l' q : List ℕ) (v : ℕ) → l ≡ put (dropping (dropped_by All q) (table_of m)) m
+pub revoke-all-law : (m l l' : List ℕ) (v : ℕ) → l ≡ put (dropping (dropped_by every_path) (table_of m)) m
     → v ≡ clear_bit (get_or l switches_at 0) granted → l' ≡ set l switches_at v → l' ≡ do_act m revoke_all
-unfolding do_act put encode apply_act dropped_by
-revoke-all-law m l l' q v e c s = s ∙ rw (c, e)
+unfolding do_act put encode apply_act
+revoke-all-law m l l' v e c s = s ∙ rw (c, e)

@@ -20,8 +20,8 @@ fn drop_grants<F: Fn(&[u8]) -> bool>(mem: &mut [u8], selects: F)
     let mut to = TABLE_HEAD;
     for _ in 0..reading::word_at(mem, 0) {
         let size = reading::word_at(mem, from + LENGTH_OFFSET) + ENTRY_HEAD;
-        let granted = reading::kind_from(mem[from]) == Kind::G;
-        if !(granted && selects(reading::entry_path(mem, from))) {
+        let goes = reading::kind_from(mem[from]) == Kind::G && selects(reading::entry_path(mem, from));
+        if !goes {
             writing::move_bytes(mem, from, to, size);
             to += size;
             kept += 1;

@@ -1,5 +1,7 @@
 -- `revoke_grants` meets its contract: every grant is dropped, and then the switch is cleared.
 use native.Mathlib.Omega.{arith}
+use Rattle.std.proofs.Common.{rules}
+use Rattle.table.specs.Acts.{every_path}
 use Rattle.table.proofs.Within.{held}
 use Rattle.table.proofs.RevokeLaws.{revoke-all-law}
 use Rattle.table.proofs.revoking.revoke_grants.Goals as goal
@@ -14,4 +16,4 @@ write_switches-requires c =
 
 pub returns : goal.returns
 returns c =
-    revoke-all-law _ _ _ _ _ c.drop_grants.ensures c.clear_bit-switches.ensures c.write_switches.ensures
+    revoke-all-law _ _ _ _ (c.drop_grants.ensures every_path (record { answers = λ p r says. search rules })) c.clear_bit-switches.ensures c.write_switches.ensures

@@ -11,7 +11,7 @@ use Rattle.refusals.specs.Refusals.{first_cause, Result, and_then, unless, cause
 use Rattle.refusals.proofs.CauseLaws.{Hands}
 use Rattle.paths.specs.Copying.{overwrite}
 use Rattle.table.specs.Tables.{Table, fresh}
-use Rattle.table.specs.Memory.{table_head, switches_at, marks_at, table_bytes, table_of, holds, encode, encode_all, put}
+use Rattle.table.specs.Memory.{table_head, switches_at, marks_at, table_bytes, table_of, holds, encode, encode_all, head_bytes, put}
 use Rattle.table.specs.Carrying.{outcome_of}
 use Rattle.table.specs.Calls.{table_in, fresh_in, put_in, MakesFresh}
 use Rattle.table.proofs.Overwrites.{over-sets}
@@ -42,17 +42,13 @@ module _ (m : List ℕ) where
 
 -- ---- a fresh table
 
-pub fresh-put : (m : List ℕ) → table_head ≤ length m → set (set (set (set m 0 0) 1 0) switches_at 0) marks_at 0 ≡ put fresh m
-unfolding put encode encode_all overwrite
-fresh-put m h = over-sets (0 ∷ 0 ∷ 0 ∷ 0 ∷ []) m 0 h
-
 module _ {m : List ℕ} where
   pub makes_none : length m < table_bytes → MakesFresh m m (Err NoTable)
   unfolding outcome_of cause_of put_in
   makes_none h = record { outcome = rw (fresh-short m h); memory = rw (fresh-short m h) }
 
-  pub makes-fresh : {m' : List ℕ} → table_bytes ≤ length m → m' ≡ put fresh m → MakesFresh m m' (Ok tt)
-  unfolding outcome_of cause_of put_in
+  pub makes-fresh : {m' : List ℕ} → table_bytes ≤ length m → m' ≡ overwrite m 0 (head_bytes 0 0 0) → MakesFresh m m' (Ok tt)
+  unfolding outcome_of cause_of put_in put encode encode_all overwrite
   makes-fresh h q = record { outcome = rw (fresh-long m h); memory = rw (fresh-long m h) q }
 
 -- what the answer tells of memory that is large enough

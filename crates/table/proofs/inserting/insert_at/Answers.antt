@@ -6,8 +6,16 @@ use Rattle.std.proofs.Common.{rules}
 use lib.ListN.{length, length-set}
 use Rattle.table.specs.Memory.{table_head, word_at, offset_at}
 use Rattle.table.proofs.Within.{held, marks-of}
-use Rattle.table.proofs.Inserts.{room, insert-steps}
+use Rattle.table.proofs.Inserts.{Room, room, insert-steps}
 use Rattle.table.proofs.inserting.insert_at.Goals as goal
+use Rattle.table.proofs.inserting.insert_at.Goals.{After-entry_offset-end}
+
+-- where the entries end
+end-is : (c : After-entry_offset-end) → c.entry_offset-end.result ≡ offset_at c.args.mem.now (word_at c.args.mem.now 0) table_head
+end-is c = c.entry_offset-end.ensures ∙ ap (λ (k : ℕ). offset_at c.args.mem.now k table_head) c.word_at-count.ensures.0
+
+has-room : (c : After-entry_offset-end) → Room c.args.mem.now c.args.place (length c.args.path.now)
+has-room c = let q = c.requires in room _ q.mem_value c.args.place (length c.args.path.now) q.place_bound.0 q.place_bound.1 q.path_bound
 
 pub word_at-count-requires : goal.word_at-count-requires
 word_at-count-requires c = omega (arith, (held _ c.requires.mem_value).long)
@@ -16,88 +24,37 @@ pub marked-marks-requires : goal.marked-marks-requires
 marked-marks-requires c = marks-of _ c.requires.mem_value
 
 pub bounds-mem-3 : goal.bounds-mem-3
-bounds-mem-3 c =
-    let q = c.requires in
-    let e : c.entry_offset-end.result ≡ offset_at c.args.mem.now (word_at c.args.mem.now 0) table_head =
-    c.entry_offset-end.ensures ∙ ap (λ (k : ℕ). offset_at c.args.mem.now k table_head) c.word_at-count.ensures.0
-    in
-    let R = room _ q.mem_value c.args.place (length c.args.path.now) q.place_bound.0 q.place_bound.1 q.path_bound in
-    omega (arith, R.long)
+bounds-mem-3 c = omega (arith, (held _ c.requires.mem_value).long)
 
 pub overflow_add-start : goal.overflow_add-start
-overflow_add-start c =
-    let q = c.requires in
-    let e : c.entry_offset-end.result ≡ offset_at c.args.mem.now (word_at c.args.mem.now 0) table_head =
-    c.entry_offset-end.ensures ∙ ap (λ (k : ℕ). offset_at c.args.mem.now k table_head) c.word_at-count.ensures.0
-    in
-    let R = room _ q.mem_value c.args.place (length c.args.path.now) q.place_bound.0 q.place_bound.1 q.path_bound in
-    omega arith
+overflow_add-start c = let a = (goal.at.overflow_add-start c).After-entry_offset-end in omega (arith, end-is a, has-room a)
 
 pub overflow_add-start-2 : goal.overflow_add-start-2
-overflow_add-start-2 c =
-    let q = c.requires in
-    let e : c.entry_offset-end.result ≡ offset_at c.args.mem.now (word_at c.args.mem.now 0) table_head =
-    c.entry_offset-end.ensures ∙ ap (λ (k : ℕ). offset_at c.args.mem.now k table_head) c.word_at-count.ensures.0
-    in
-    let R = room _ q.mem_value c.args.place (length c.args.path.now) q.place_bound.0 q.place_bound.1 q.path_bound in
-    omega arith
+overflow_add-start-2 c = let a = (goal.at.overflow_add-start-2 c).After-entry_offset-end in omega (arith, end-is a, has-room a)
 
 pub overflow_sub-end : goal.overflow_sub-end
-overflow_sub-end c =
-    let q = c.requires in
-    let e : c.entry_offset-end.result ≡ offset_at c.args.mem.now (word_at c.args.mem.now 0) table_head =
-    c.entry_offset-end.ensures ∙ ap (λ (k : ℕ). offset_at c.args.mem.now k table_head) c.word_at-count.ensures.0
-    in
-    let R = room _ q.mem_value c.args.place (length c.args.path.now) q.place_bound.0 q.place_bound.1 q.path_bound in
-    omega arith
+overflow_sub-end c = let a = (goal.at.overflow_sub-end c).After-entry_offset-end in omega (arith, end-is a, has-room a)
 
-pub move_up-requires : goal.move_up-requires
-move_up-requires c =
-    let q = c.requires in
-    let e : c.entry_offset-end.result ≡ offset_at c.args.mem.now (word_at c.args.mem.now 0) table_head =
-    c.entry_offset-end.ensures ∙ ap (λ (k : ℕ). offset_at c.args.mem.now k table_head) c.word_at-count.ensures.0
-    in
-    let R = room _ q.mem_value c.args.place (length c.args.path.now) q.place_bound.0 q.place_bound.1 q.path_bound in
-    omega arith
+pub move_bytes-requires : goal.move_bytes-requires
+move_bytes-requires c = let a = (goal.at.move_bytes-requires c).After-entry_offset-end in omega (arith, end-is a, has-room a)
 
 pub write_entry-requires : goal.write_entry-requires
-write_entry-requires c =
-    let q = c.requires in
-    let e : c.entry_offset-end.result ≡ offset_at c.args.mem.now (word_at c.args.mem.now 0) table_head =
-    c.entry_offset-end.ensures ∙ ap (λ (k : ℕ). offset_at c.args.mem.now k table_head) c.word_at-count.ensures.0
-    in
-    let R = room _ q.mem_value c.args.place (length c.args.path.now) q.place_bound.0 q.place_bound.1 q.path_bound in
-    omega arith
+write_entry-requires c = let a = (goal.at.write_entry-requires c).After-entry_offset-end in omega (arith, end-is a, has-room a)
 
 pub set_count-requires : goal.set_count-requires
-set_count-requires c =
-    let q = c.requires in
-    let e : c.entry_offset-end.result ≡ offset_at c.args.mem.now (word_at c.args.mem.now 0) table_head =
-    c.entry_offset-end.ensures ∙ ap (λ (k : ℕ). offset_at c.args.mem.now k table_head) c.word_at-count.ensures.0
-    in
-    let R = room _ q.mem_value c.args.place (length c.args.path.now) q.place_bound.0 q.place_bound.1 q.path_bound in
-    omega arith
+set_count-requires c = omega (arith, (held _ c.requires.mem_value).long)
 
 pub bounds-mem-3-2 : goal.bounds-mem-3-2
-bounds-mem-3-2 c =
-    let q = c.requires in
-    let e : c.entry_offset-end.result ≡ offset_at c.args.mem.now (word_at c.args.mem.now 0) table_head =
-    c.entry_offset-end.ensures ∙ ap (λ (k : ℕ). offset_at c.args.mem.now k table_head) c.word_at-count.ensures.0
-    in
-    let R = room _ q.mem_value c.args.place (length c.args.path.now) q.place_bound.0 q.place_bound.1 q.path_bound in
-    omega arith
+bounds-mem-3-2 c = omega (arith, (held _ c.requires.mem_value).long)
 
 pub shape_of-mem : goal.shape_of-mem
-shape_of-mem c = simp length-set (c.set_count.auto.mem ∙ c.write_entry.auto.mem ∙ c.move_up.auto.mem)
+shape_of-mem c = simp length-set (c.set_count.auto.mem ∙ c.write_entry.auto.mem ∙ c.move_bytes.auto.mem)
 
 pub returns : goal.returns
 returns c =
     let q = c.requires in
-    let e : c.entry_offset-end.result ≡ offset_at c.args.mem.now (word_at c.args.mem.now 0) table_head =
-    c.entry_offset-end.ensures ∙ ap (λ (k : ℕ). offset_at c.args.mem.now k table_head) c.word_at-count.ensures.0
-    in
-    let R = room _ q.mem_value c.args.place (length c.args.path.now) q.place_bound.0 q.place_bound.1 q.path_bound in
+    let a = (goal.at.returns c).After-entry_offset-end in
     insert-steps c.args.mem.now (record { each = λ i. search rules }) q.mem_value
-    c.args.place q.place_bound.0 (record { kind = c.args.kind; path = c.args.path.now }) _ _ _ _ _ _ _ R
-    c.entry_offset-start.ensures e c.word_at-count.ensures.0 c.marked-marks.ensures
-    c.move_up.ensures c.write_entry.ensures c.set_count.ensures
+    c.args.place q.place_bound.0 (record { kind = c.args.kind; path = c.args.path.now }) _ _ _ _ _ _ _ (has-room a)
+    c.entry_offset-start.ensures (end-is a) c.word_at-count.ensures.0 c.marked-marks.ensures
+    c.move_bytes.ensures c.write_entry.ensures c.set_count.ensures

@@ -2,19 +2,18 @@
 use Rattle.std.specs.Prelude.{Ok, Err}
 use Prim.Native.Nat.{ℕ, ◌≤◌, ◌<◌}
 use mathlib.Core.Path.{◌≡◌, ◌∙◌}
-use mathlib.Core.List.{List, [], ◌∷◌}
+use mathlib.Core.List.{List}
 use mathlib.Core.Bool.{true, false}
-use lib.ListN.{length, set}
+use lib.ListN.{length}
 use borrow.Author.Tests.{lt-ltb, le-ltb}
 use Rattle.refusals.specs.declared.Refusal.TheVariants.{NoTable}
 use Rattle.refusals.specs.Refusals.{first_cause, Result, and_then, unless, cause_of}
 use Rattle.refusals.proofs.CauseLaws.{Hands}
 use Rattle.paths.specs.Copying.{overwrite}
 use Rattle.table.specs.Tables.{Table, fresh}
-use Rattle.table.specs.Memory.{table_head, switches_at, marks_at, table_bytes, table_of, holds, encode, encode_all, head_bytes, put}
+use Rattle.table.specs.Memory.{table_bytes, table_of, holds, encode, encode_all, head_bytes, put}
 use Rattle.table.specs.Carrying.{outcome_of}
 use Rattle.table.specs.Calls.{table_in, fresh_in, put_in, MakesFresh}
-use Rattle.table.proofs.Overwrites.{over-sets}
 
 -- ---- steps of the checking order
 

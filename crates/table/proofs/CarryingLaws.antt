@@ -1,10 +1,9 @@
 -- Laws of carrying an act out, step by step: the act of each action, what doing it leaves, and cause 8.
 use Rattle.std.specs.Prelude.{Option, None, Some, Ok, Err}
 use Prim.Native.Nat.{ℕ, ◌≤◌}
-use mathlib.Core.Path.{◌≡◌, refl, sym, ◌∙◌}
+use mathlib.Core.Path.{◌≡◌}
 use mathlib.Core.List.{List}
 use mathlib.Core.Bool.{true, false}
-use native.Mathlib.Omega.{arith}
 use borrow.Author.Tests.{leb-true}
 use Rattle.refusals.specs.declared.Refusal.TheVariants.{TableFull}
 use Rattle.refusals.specs.Refusals.{first_cause}

@@ -1,14 +1,14 @@
 -- Laws of the comparison of two entries.
 use Prim.Native.Nat.{ℕ, zero, suc, ◌^◌, ◌<◌}
 use mathlib.Core.Path.{◌≡◌, refl, sym}
-use mathlib.Core.List.{List, [], ◌∷◌}
+use mathlib.Core.List.{List}
 use mathlib.Core.Bool.{Bool, true, false, ◌&&◌, not, cond}
-use lib.IntN.{ℤ, pos, negsuc, neg_ℤ, ◌-ℤ◌}
+use lib.IntN.{ℤ, pos, negsuc, neg_ℤ}
 use lib.Dec.{eqb, ltb}
-use mir.Syntax.{Width, w8}
+use mir.Syntax.{Width}
 use lib.Signed.{mag}
-use mir.Val.{SFits, to_z, of_z, hbits}
-use mir.Facts.{sfits_lit, to_z-of_z}
+use mir.Val.{to_z, of_z, hbits}
+use mir.Facts.{to_z-of_z}
 use denote.Enum.Bare.{sameb}
 use Rattle.std.specs.declared.cmp.Ordering.{Ordering}
 use Rattle.std.specs.declared.cmp.Ordering.TheVariants.{Less, Equal, Greater}
@@ -17,8 +17,7 @@ use Rattle.paths.specs.contracts.Relation.{the_type}
 use Rattle.paths.specs.declared.Comparison.{Comparison}
 use Rattle.paths.specs.declared.Relation.{Relation}
 use Rattle.paths.specs.declared.Relation.TheVariants as relation
-use Rattle.paths.specs.Components.{components}
-use Rattle.paths.specs.Relations.{is_prefix, path_order, number_order, or_else, in_turn, less, equal, greater, relation, comparison}
+use Rattle.paths.specs.Relations.{is_prefix, number_order, less, equal, greater, relation, comparison}
 use Rattle.paths.proofs.RelationLaws.{number_order-turned, path_order-turned, Said, relation-said}
 use Rattle.table.specs.Entries.{Entry, is_granted, kind_precedence, same_path, strictly_extends, compare_alike, granted_order, compare, order_number}
 

@@ -2,7 +2,7 @@ use mathlib.Core.Path.{sym, ◌∙◌}
 use native.Mathlib.Omega.{arith}
 use Rattle.table.specs.Memory.{entry_head}
 use Rattle.table.proofs.ScanningLaws.{scans-start, scans-bad, scans-next, scans-end, fits-parts, mark_of}
-use Prim.Native.Nat.{ℕ, ◌+◌, ◌-◌, ◌<◌}
+use Prim.Native.Nat.{◌+◌, ◌-◌}
 use mathlib.Core.Path.{◌≡◌}
 use native.Mathlib.Nat.{sub-zero}
 use Rattle.table.proofs.holding.entries_fit.Goals as goal

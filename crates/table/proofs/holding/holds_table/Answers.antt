@@ -1,10 +1,8 @@
 -- `holds_table` meets its contract: size, count and switches are tested first, and then the entries decide.
 use Prim.Native.Nat.{◌≤◌}
 use mathlib.Core.Path.{sym, ◌∙◌}
-use mathlib.Core.Bool.{true}
 use native.Mathlib.Omega.{arith}
 use lib.ListN.{get_or}
-use Rattle.std.proofs.Common.{rules}
 use Rattle.std.proofs.lemmas.Grind.{common_steps}
 use Rattle.table.specs.Tables.{max_switches}
 use Rattle.table.specs.Memory.{switches_at}

@@ -1,10 +1,9 @@
 -- `move_bytes` meets its contract: what `copy_within` leaves is one run of bytes written over others.
-use mathlib.Core.Path.{◌∙◌, ap}
+use mathlib.Core.Path.{◌∙◌}
 use native.Mathlib.Omega.{arith}
 use lib.ListN.{drop, length-drop}
-use Prim.Native.Nat.{ℕ, ◌+◌, ◌-◌, ◌≤◌}
+use Prim.Native.Nat.{◌+◌, ◌-◌}
 use mathlib.Core.Path.{◌≡◌}
-use lib.Seq.{paste}
 use Rattle.table.proofs.Moves.{paste-over}
 use Rattle.table.proofs.writing.move_bytes.Goals as goal
 

@@ -1,6 +1,5 @@
 -- `write_entry` meets its contract: the kind, the length and the copied path are one run of bytes.
 use mathlib.Core.Path.{◌∙◌}
-use lib.ListN.{length-set}
 use Rattle.table.proofs.Overwrites.{written}
 use Rattle.table.proofs.writing.write_entry.Goals as goal
 

@@ -51,7 +51,7 @@ module _ (size : List Act → ℕ) (none : 0 ≡ size []) where
     asked-told (Ok decision) = refl
 
     pub asked-text : (c : Result Decision) → text_size (asked_by c a) ≡ length (text_due c a)
-    unfolding text_in
+    unfolding text_in text_due
     asked-text (Err cause) = refl
     asked-text (Ok decision) = refl
 

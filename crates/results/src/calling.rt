@@ -6,7 +6,7 @@ ghost use Rattle.calls.specs.Calls.{about, Asks, Revokes};
 ghost use Rattle.child.specs.Calls.{CreatesChild};
 ghost use Rattle.results.specs.Exports.{ExportedAsk, ExportedQuestion, ExportedRevoke, ExportedChild};
 
-use crate::numbers::{outcome_number, question_number, question_size, refused};
+use crate::numbers::{answer_number, outcome_number, question_number, question_size};
 use calls::asking::ask;
 use calls::revoking::revoke;
 use child::creating::create_child_permissions;
@@ -33,22 +33,13 @@ pub fn asked(
 ) -> i32
     ensures { ExportedAsk (Asks call link (lent mem.old number.old words.old) space.old (about d «path».now cwd.now) response (lent mem.new number.new words.new) space.new) told.new size.new count.new result }
 {
-    match ask(
+    let asked = ask(
         mem, link, number, words, call, d, path, cwd, response, space,
-    ) {
-        Ok(asked) => {
-            *told = u32::from(asked.asked);
-            *size = asked.text;
-            *count = asked.words;
-            i32::from(u8::from(asked.state))
-        }
-        Err(cause) => {
-            *told = 0;
-            *size = 0;
-            *count = 0;
-            refused(cause)
-        }
-    }
+    );
+    *told = u32::from(asked.is_ok_and(|made| made.asked));
+    *size = asked.map_or(0, |made| made.text);
+    *count = asked.map_or(0, |made| made.words);
+    answer_number(asked.map(|made| made.state))
 }
 
 // The same plainly: it looks at no number and no words.
@@ -112,16 +103,9 @@ pub fn revoked(
 ) -> i32
     ensures { ExportedRevoke (Revokes link (lent mem.old number.old words.old) (about d «path».now cwd.now) (lent mem.new number.new words.new)) count.new result }
 {
-    match revoke(mem, link, number, words, d, path, cwd) {
-        Ok(revoked) => {
-            *count = revoked.words;
-            i32::from(u8::from(revoked.state))
-        }
-        Err(cause) => {
-            *count = 0;
-            refused(cause)
-        }
-    }
+    let revoked = revoke(mem, link, number, words, d, path, cwd);
+    *count = revoked.map_or(0, |made| made.words);
+    answer_number(revoked.map(|made| made.state))
 }
 
 // The same plainly.

@@ -11,7 +11,7 @@ use Rattle.std.proofs.lemmas.Grind.{common_steps}
 use borrow.Author.Tests.{ltb-false, not-false}
 use Rattle.refusals.specs.declared.Refusal.{Refusal}
 use Rattle.refusals.specs.declared.Refusal.TheVariants.{NoSpace, Unknown, TableFull}
-use Rattle.refusals.specs.Refusals.{first_cause, unless}
+use Rattle.refusals.specs.Refusals.{first_cause, Result, and_then, unless}
 use Rattle.refusals.proofs.CauseLaws.{no-cause-head}
 use Rattle.table.specs.Tables.{Table}
 use Rattle.table.specs.Acts.{Act, act_overflows}
@@ -21,10 +21,20 @@ use Rattle.table.proofs.ActLaws.{Acted, acted-none, acted-one}
 use Rattle.records.specs.Numbers.{record_space}
 use Rattle.link.specs.declared.Link.{Link}
 use Rattle.link.specs.declared.Link.TheVariants.{Plain, Linked}
-use Rattle.link.specs.Linking.{at_least_one, lacks_room, room_in, Numbering, numbering, lacks_run, run_in, carry_cause}
+use Rattle.link.specs.Linking.{at_least_one, lacks_room, room_in, Numbering, numbering, lacks_run, run_in, admit, carry_cause}
 use Rattle.link.specs.Steps.{Admits, Ready}
 
 -- ---- the record space of k items
+
+pub least-one : (k : ℕ) → 1 ≤ at_least_one k
+unfolding at_least_one
+least-one zero = omega arith
+least-one (suc k) = omega arith
+
+pub least-many : (k : ℕ) → k ≤ at_least_one k
+unfolding at_least_one
+least-many zero = omega arith
+least-many (suc k) = omega arith
 
 least-max : (k : ℕ) → at_least_one k ≡ max k 1
 unfolding at_least_one
@@ -54,6 +64,19 @@ module _ (link : Link) (n : ℕ) where
   pub run-known : lacks_run link ≡ false → run_in link n ≡ Ok (numbering link n)
   unfolding run_in first_cause unless
   run-known e = rw e
+
+-- ---- both tests at once
+
+module _ (k : ℕ) (link : Link) (w : List ℕ) where
+  pub admitted : {u : Unit} → Ok u ≡ admit k link w → Admits k link w
+  unfolding admit first_cause unless
+  admitted e = record { roomy = grind (arith, common_steps, e); run = grind (arith, common_steps, e) }
+
+  -- whatever the next step is, the call goes no further
+  pub not_admitted : {cause : Refusal} (n : ℕ) {A : Type 0} (next : Numbering → Result A) → Err cause ≡ admit k link w
+      → and_then (room_in k link w) (λ room. and_then (run_in link n) next) ≡ Err cause
+  unfolding admit room_in run_in and_then first_cause unless
+  not_admitted n next e = grind (arith, common_steps, e)
 
 -- a plain call passes both
 pub plain-admits : (k : ℕ) (w : List ℕ) → Admits k Plain w

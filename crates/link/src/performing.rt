@@ -11,9 +11,9 @@ use crate::Link;
 use records::MAX_NUMBER;
 use records::writing::write_record;
 use refusals::Refusal;
+use table::Action;
 use table::carrying::carry_out;
 use table::placing::overflows;
-use table::Action;
 
 // Why an act is refused for which no number is left: an insert with no room comes first.
 fn without_number(mem: &[u8], action: Action, q: &[u8]) -> Result<(), Refusal>
@@ -50,9 +50,8 @@ fn send_at(
     if matches!(action, Action::Nothing) {
         return at;
     }
-    let next = *number + 1;
-    *number = next;
-    write_record(words, at, run, next, action, q)
+    *number += 1;
+    write_record(words, at, run, *number, action, q)
 }
 
 // Carries an act out and records it. The number is looked at first, so that an insert searches once.

@@ -5,6 +5,7 @@ use mathlib.Core.Path.{◌≡◌, refl, sym, ap, ◌∙◌}
 use mathlib.Core.List.{List}
 use mathlib.Core.Bool.{Bool, true, false, ◌&&◌, ◌||◌, cond}
 use native.Mathlib.Omega.{arith}
+use Rattle.std.proofs.lemmas.Grind.{common_steps}
 use lib.ListN.{length, take, drop, length-append}
 use lib.Seq.{take_at}
 use lib.Dec.{leb, ltb, eqb}
@@ -63,36 +64,13 @@ pub record Agrees (s : Numbers) : Type 0 where
   pub below : s.run ≤ s.highest
   pub ordered : s.run ≡ s.highest → s.n ≤ s.h
 
-module _ (s : Numbers) where
-  pub run-above : s.highest < s.run → conflict s ≡ true
-  unfolding conflict
-  run-above l = rw (lt-ltb s.highest s.run l)
+pub no-conflict : (s : Numbers) → Agrees s → conflict s ≡ false
+unfolding conflict
+no-conflict s A = grind (arith, common_steps, A.below, A.ordered)
 
-  pub run-below : s.run ≤ s.highest → (s.run ≡ s.highest → ⊥) → conflict s ≡ false
-  unfolding conflict
-  run-below l ne = rw (le-ltb s.highest s.run l, ne_eqb s.run s.highest ne)
-
-  pub run-same : s.run ≡ s.highest → conflict s ≡ ltb s.h s.n
-  unfolding conflict
-  run-same e = rw (le-ltb s.highest s.run (omega arith), eq-eqb s.run s.highest e)
-
-  pub no-conflict : Agrees s → conflict s ≡ false
-  no-conflict A = go (eqb s.run s.highest) refl
-    where
-      go : (b : Bool) → eqb s.run s.highest ≡ b → conflict s ≡ false
-      go true e = let same = eqb-true s.run s.highest e in run-same same ∙ le-ltb s.h s.n (A.ordered same)
-      go false e = run-below A.below (eqb-false s.run s.highest e)
-
-  pub agrees : conflict s ≡ false → Agrees s
-  unfolding conflict
-  agrees e = go (ltb s.highest s.run) refl e
-    where
-      go : (b : Bool) → ltb s.highest s.run ≡ b → (b || (eqb s.run s.highest && ltb s.h s.n)) ≡ false → Agrees s
-      go true f g = cc
-      go false f g = record {
-        below = ltb-false s.highest s.run f;
-        ordered = λ same. ltb-false s.h s.n (sym (rw (eq-eqb s.run s.highest same)) ∙ g);
-      }
+pub agrees : (s : Numbers) → conflict s ≡ false → Agrees s
+unfolding conflict
+agrees s e = record { below = grind (arith, common_steps, e); ordered = λ same. grind (arith, common_steps, e) }
 
 -- ---- the checking order
 
@@ -211,35 +189,22 @@ module _ (words : List ℕ) {space after : List ℕ} {r : Option Record} (R : Re
 
 -- ---- what is met
 
-module _ {h number : ℕ} where
-  pub higher-number : h < number → number ≡ higher h number
-  unfolding higher
-  higher-number l = rw (lt-ltb _ _ l)
-
-  pub higher-same : number ≤ h → h ≡ higher h number
-  unfolding higher
-  higher-same l = rw (le-ltb _ _ l)
-
 pub higher-least : (h number : ℕ) → (h ≤ higher h number) × (number ≤ higher h number)
 unfolding higher
-higher-least h number = go (ltb h number) refl
-  where
-    go : (b : Bool) → ltb h number ≡ b → (h ≤ cond b number h) × (number ≤ cond b number h)
-    go true e = let l = ltb-true h number e in (omega arith, omega arith)
-    go false e = let l = ltb-false h number e in (omega arith, omega arith)
+higher-least h number = (grind (arith, common_steps), grind (arith, common_steps))
 
 module _ (s : Numbers) (q k : ℕ) where
   pub met-anew : s.highest < q → met s q k ≡ record { n = s.n; h = k; run = s.run; highest = q }
   unfolding met
-  met-anew l = rw (lt-ltb s.highest q l)
+  met-anew l = grind (arith, common_steps)
 
   pub met-same : s.highest ≡ q → met s q k ≡ record { n = s.n; h = higher s.h k; run = s.run; highest = s.highest }
   unfolding met
-  met-same e = rw (le-ltb s.highest q (omega arith), eq-eqb s.highest q e)
+  met-same e = grind (arith, common_steps)
 
   pub met-lower : q ≤ s.highest → (s.highest ≡ q → ⊥) → met s q k ≡ s
   unfolding met
-  met-lower l ne = rw (le-ltb s.highest q l, ne_eqb s.highest q ne)
+  met-lower l ne = grind (arith, common_steps)
 
 -- number k of run q is met: n and the run stay, and neither the highest run nor, within it, h falls
 pub record Meets (s : Numbers) (q k : ℕ) (s' : Numbers) : Type 0 where
@@ -251,23 +216,15 @@ pub record Meets (s : Numbers) (q k : ℕ) (s' : Numbers) : Type 0 where
   pub reaches : q ≡ s'.highest → k ≤ s'.h
 
 pub meets : (s : Numbers) (q k : ℕ) → Meets s q k (met s q k)
-meets s q k = go (ltb s.highest q) refl (eqb s.highest q) refl
-  where
-    go : (b : Bool) → ltb s.highest q ≡ b → (d : Bool) → eqb s.highest q ≡ d → Meets s q k (met s q k)
-    go true e d f =
-        let l = ltb-true s.highest q e in
-        rw (met-anew s q k l)
-        (record { same-n = refl; same-run = refl; up = omega arith; over = omega arith; keeps = λ x. absurd (omega arith); reaches = λ x. omega arith })
-    go false e true f =
-        let same = eqb-true s.highest q f in
-        let h = higher-least s.h k in
-        rw (met-same s q k same)
-        (record { same-n = refl; same-run = refl; up = omega arith; over = omega arith; keeps = λ x. h.0; reaches = λ x. h.1 })
-    go false e false f =
-        let l = ltb-false s.highest q e in
-        let ne = eqb-false s.highest q f in
-        rw (met-lower s q k l ne)
-        (record { same-n = refl; same-run = refl; up = omega arith; over = l; keeps = λ x. omega arith; reaches = λ x. absurd (ne (sym x)) })
+unfolding met higher
+meets s q k = record {
+  same-n = grind (arith, common_steps);
+  same-run = grind (arith, common_steps);
+  up = grind (arith, common_steps);
+  over = grind (arith, common_steps);
+  keeps = λ x. grind (arith, common_steps);
+  reaches = λ x. grind (arith, common_steps);
+}
 
 -- ---- what a change comes to, by its run and number
 

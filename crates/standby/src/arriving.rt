@@ -99,11 +99,7 @@ pub fn take_record(mem: &mut [u8], words: &[u32], numbers: Numbers) -> Result<Ar
 }
 
 // An arrival: the lent numbers are taken out, and what they are after it is put back. A refused one leaves them.
-pub fn arrive(
-    mem: &mut [u8],
-    words: &[u32],
-    numbers: &mut Numbers,
-) -> Result<Arrival, Refusal>
+pub fn arrive(mem: &mut [u8], words: &[u32], numbers: &mut Numbers) -> Result<Arrival, Refusal>
     ensures { Arrives mem.old words.now numbers.old mem.new numbers.new result }
 {
     let arrived = take_record(mem, words, *numbers)?;

@@ -1,5 +1,6 @@
 -- Laws of what check and request decide: the operator's answer, and that a pass without a walk cannot be seen.
 use Prim.Native.Nat.{ℕ, zero, suc, ◌<◌}
+use Rattle.std.specs.Prelude.{None, Some}
 use mathlib.Core.Path.{◌≡◌, refl}
 use mathlib.Core.List.{List}
 use mathlib.Core.Bool.{true, false≢true}
@@ -19,7 +20,6 @@ use Rattle.walk.specs.Walk.{query_desc, is_allow_all}
 use Rattle.walk.proofs.WalkLaws.{allow-all-granted}
 use Rattle.deciding.specs.declared.PromptResponse.{PromptResponse}
 use Rattle.deciding.specs.declared.PromptResponse.TheVariants.{Deny, Allow, AllowAll}
-use Rattle.deciding.specs.declared.ResponseRead.TheVariants.{Response, Unknown}
 use Rattle.deciding.specs.declared.Decided.{Decided}
 use Rattle.deciding.specs.Decisions.{response_number, response_of, passes, Decision, check_mode, check_by, check_desc}
 use Rattle.deciding.specs.Steps.{Decides}
@@ -27,13 +27,13 @@ use Rattle.deciding.specs.Steps.{Decides}
 -- ---- the operator's answer
 
 -- each answer is the one that its number names
-pub response-numbered : (response : PromptResponse) → response_of (response_number response) ≡ Response response
+pub response-numbered : (response : PromptResponse) → response_of (response_number response) ≡ Some response
 unfolding response_of
 response-numbered Deny = refl
 response-numbered Allow = refl
 response-numbered AllowAll = refl
 
-pub response-unknown : (n : ℕ) → 2 < n → response_of n ≡ Unknown
+pub response-unknown : (n : ℕ) → 2 < n → response_of n ≡ None
 unfolding response_of
 response-unknown zero h = absurd (omega arith)
 response-unknown (suc zero) h = absurd (omega arith)

@@ -1,18 +1,19 @@
 -- Laws of the question that a call would ask: it is asked exactly where the call itself asks, whatever the operator answers.
+use Rattle.std.specs.Prelude.{Option, Some, None, Ok, Err}
 use Prim.Native.Nat.{ℕ, ◌≤◌, ◌<◌}
 use mathlib.Core.Path.{◌≡◌, refl, ap}
-use mathlib.Core.List.{List}
+use mathlib.Core.List.{List, []}
 use mathlib.Core.Bool.{Bool, true, false, cond}
+use native.Mathlib.Omega.{arith}
 use lib.ListN.{length, take}
+use lib.Seq.{length-take-le}
 use borrow.Author.Tests.{lt-ltb, le-ltb}
 use Rattle.refusals.specs.declared.Refusal.{Refusal}
 use Rattle.refusals.specs.declared.Refusal.TheVariants.{NoTable, NoSpace}
-use Rattle.refusals.specs.Refusals.{first_cause, and_then, unless}
+use Rattle.refusals.specs.Refusals.{Result, first_cause, and_then, unless}
 use Rattle.paths.specs.declared.Descriptor.{Descriptor}
-use Rattle.paths.specs.declared.Resolution.{Resolution}
-use Rattle.paths.specs.declared.Resolution.TheVariants as resolution
 use Rattle.paths.specs.Copying.{begun, Appends}
-use Rattle.paths.specs.Giving.{Query, query_of, given, Gives}
+use Rattle.paths.specs.Giving.{Query, query_of, Gives}
 use Rattle.paths.proofs.GivingLaws.{Stands, gives-refused, gives-stands}
 use Rattle.paths.specs.Resolving.{resolve}
 use Rattle.paths.specs.declared.Descriptor.TheVariants.{NoPath, Path}
@@ -27,12 +28,10 @@ use Rattle.walk.specs.Walk.{query_desc, is_allow_all}
 use Rattle.deciding.specs.declared.PromptResponse.{PromptResponse}
 use Rattle.deciding.specs.declared.Call.{Call}
 use Rattle.deciding.specs.declared.Call.TheVariants.{Check, Request}
-use Rattle.deciding.specs.declared.Question.{Question}
-use Rattle.deciding.specs.declared.Question.TheVariants as question
 use Rattle.deciding.specs.Decisions.{Decision, asks, check_mode, check_by, check_desc, request_by, request_desc, decide}
 use Rattle.deciding.specs.Texts.{text_of}
 use Rattle.deciding.specs.Questions.{text_bytes, text_space, would_ask, question_call, question_by, question_in, question_text, Questions}
-use Rattle.deciding.specs.Steps.{HasText, PutsQuestion}
+use Rattle.deciding.specs.Steps.{HasText}
 
 -- ---- the answer does not matter
 
@@ -80,42 +79,45 @@ pub text_same : {d : Descriptor} {p cwd : List ℕ} {n : ℕ} {s : List ℕ} →
 text_same {d = NoPath} S = unfold text_of in refl
 text_same {d = Path} {p = p} S = ap (text_of Path p) (S.bytes refl)
 
-pub text-room : {d : Descriptor} {p cwd : List ℕ} {n : ℕ} {s t : List ℕ} → text_bytes ≤ length t → Stands d p cwd n s → HasText d p s n t
-text-room h S = record { room = h; inside = S.room; short = S.short; brief = S.brief }
+pub text-room : {d : Descriptor} {p cwd : List ℕ} {n : ℕ} {s t : List ℕ} → text_bytes ≤ length t → Stands d p cwd n s → HasText d p (take n s) t
+text-room {n = n} {s = s} h S = record { room = h; short = let e = length-take-le n s S.room in let k = S.short in omega arith; brief = S.brief }
 
 -- ---- what the code answers
 
-pub puts-text : {asks : Bool} {d : Descriptor} {given resolved s s' : List ℕ} {n : ℕ} → asks ≡ true → Appends (text_of d given resolved) s 0 s' n
-    → PutsQuestion asks d given resolved s s' (question.Asks n)
-unfolding question_by
-puts-text f W = rw f (record { answer = ap question.Asks (from_start W).1; space = (from_start W).0 })
-
-pub puts-nothing : {asks : Bool} {d : Descriptor} (given resolved s : List ℕ) → asks ≡ false → PutsQuestion asks d given resolved s s question.AsksNothing
-unfolding question_by begun
-puts-nothing given resolved s f = rw f (record { answer = refl; space = refl })
-
 module _ {call : Call} {m s : List ℕ} {d : Descriptor} {p cwd : List ℕ} where
-  pub question-no-table : holds m ≡ false → Questions call m s d p cwd s (question.Refused NoTable)
+  pub question-no-table : holds m ≡ false → Questions call m s d p cwd s (Err NoTable)
   unfolding question_call and_then question_in question_text begun
   question-no-table h = record { answer = rw (no_table m h); space = rw (no_table m h) }
 
   module _ (h : holds m ≡ true) where
-    pub question-no-space : length s < text_bytes → Questions call m s d p cwd s (question.Refused NoSpace)
+    pub question-no-space : length s < text_bytes → Questions call m s d p cwd s (Err NoSpace)
     unfolding question_call and_then text_space first_cause unless question_in question_text begun
     question-no-space short = record { answer = rw (a-table m h, lt-ltb _ _ short); space = rw (a-table m h, lt-ltb _ _ short) }
 
-    module _ (room : text_bytes ≤ length s) {z z' : List ℕ} {r : Resolution} (G : Gives d p cwd z r z') where
-      pub question-refused : {cause : Refusal} → r ≡ resolution.Refused cause → Questions call m s d p cwd s (question.Refused cause)
+    module _ (room : text_bytes ≤ length s) {z z' : List ℕ} {r : Result ℕ} (G : Gives d p cwd z r z') where
+      pub question-refused : {cause : Refusal} {a : Result (Option ℕ)} → r ≡ Err cause → a ≡ Err cause → Questions call m s d p cwd s a
       unfolding question_call and_then text_space first_cause unless question_in question_text begun
-      question-refused e = record { answer = rw (a-table m h, le-ltb _ _ room, gives-refused G e); space = rw (a-table m h, le-ltb _ _ room, gives-refused G e) }
+      question-refused e f = record { answer = rw (a-table m h, le-ltb _ _ room, gives-refused G e) f; space = rw (a-table m h, le-ltb _ _ room, gives-refused G e) }
 
-      pub question-put : {n : ℕ} {told : Bool} {s' : List ℕ} {a : Question} → r ≡ resolution.Resolved n → told ≡ would_ask call (table_of m) (query_of d (take n z'))
-          → PutsQuestion told d p (take n z') s s' a → Questions call m s d p cwd s' a
-      unfolding question_call and_then text_space first_cause unless question_in question_text
-      question-put e asked P =
-          let S = gives-stands G e in
-          let text = text_same S in
-          record {
-            answer = rw (a-table m h, le-ltb _ _ room, S.query, ← text, ← asked) P.answer;
-            space = rw (a-table m h, le-ltb _ _ room, S.query, ← text, ← asked) P.space;
-          }
+      module _ {n : ℕ} (e : r ≡ Ok n) where
+        -- the answer and the space, by whether it would ask and the text that stands at the space's start
+        question-by : {told : Bool} {s' : List ℕ} {a : Option ℕ} → told ≡ would_ask call (table_of m) (query_of d (take n z'))
+            → a ≡ question_by told (text_of d p (take n z')) → s' ≡ begun (cond told (text_of d p (take n z')) []) s
+            → Questions call m s d p cwd s' (Ok a)
+        unfolding question_call and_then text_space first_cause unless question_in question_text
+        question-by asked f g =
+            let S = gives-stands G e in
+            let text = text_same S in
+            record {
+              answer = rw (a-table m h, le-ltb _ _ room, S.query, ← text, ← asked, f);
+              space = rw (a-table m h, le-ltb _ _ room, S.query, ← text, ← asked) g;
+            }
+
+        pub question-asked : {s' : List ℕ} {k : ℕ} → true ≡ would_ask call (table_of m) (query_of d (take n z'))
+            → Appends (text_of d p (take n z')) s 0 s' k → Questions call m s d p cwd s' (Ok (Some k))
+        unfolding question_by
+        question-asked asked W = question-by asked (ap (λ (k : ℕ). Some k) (from_start W).1) (from_start W).0
+
+        pub question-none : false ≡ would_ask call (table_of m) (query_of d (take n z')) → Questions call m s d p cwd s (Ok None)
+        unfolding question_by begun
+        question-none asked = question-by asked refl refl

@@ -1,11 +1,13 @@
 -- Laws of the texts: a path's first and last byte, the name that is shown, and pieces written one after the other.
 use Prim.Native.Nat.{ℕ, suc, ◌+◌, ◌-◌, ◌≤◌}
-use mathlib.Core.Path.{◌≡◌, refl}
+use mathlib.Core.Path.{◌≡◌, refl, sym}
 use mathlib.Core.List.{List, [], ◌∷◌, ◌++◌}
 use mathlib.Core.Bool.{Bool, true, false, ◌&&◌, cond}
 use native.Mathlib.Omega.{arith}
-use lib.ListN.{length, get_or, length-append}
+use lib.ListN.{length, length-append}
 use lib.Dec.{eqb}
+use Rattle.std.specs.List.{starts_with, ends_with}
+use Rattle.std.proofs.lemmas.Grind.{common_steps}
 use Rattle.paths.specs.Components.{slash}
 use Rattle.paths.specs.Resolving.{is_absolute}
 use Rattle.paths.specs.Copying.{Appends}
@@ -27,52 +29,39 @@ use Rattle.deciding.specs.Texts.{
 
 -- ---- the first byte and the last
 
-pub begins-empty : (b : ℕ) (p : List ℕ) → length p ≡ 0 → false ≡ begins b p
+-- std's comparison of one byte, from its side
+one_byte : (a b : ℕ) → eqb b a && true ≡ eqb a b
+one_byte a b = grind (arith, common_steps)
+
+pub starts-one : (b : ℕ) (p : List ℕ) → starts_with eqb p (b ∷ []) ≡ begins b p
 unfolding begins
-begins-empty b [] h = refl
-begins-empty b (a ∷ p) h = absurd (omega arith)
+starts-one b [] = refl
+starts-one b (a ∷ p) = one_byte a b
 
-pub begins-first : (b : ℕ) (p : List ℕ) → (length p ≡ 0 → ⊥) → eqb (get_or p 0 0) b ≡ begins b p
-unfolding begins
-begins-first b [] h = absurd (h refl)
-begins-first b (a ∷ p) h = refl
-
-pub ends-empty : (b : ℕ) (p : List ℕ) → length p ≡ 0 → false ≡ ends b p
+pub ends-one : (b : ℕ) (p : List ℕ) → ends_with eqb p (b ∷ []) ≡ ends b p
 unfolding ends
-ends-empty b [] h = refl
-ends-empty b (a ∷ p) h = absurd (omega arith)
-
-pub ends_last : (b : ℕ) (p : List ℕ) → (length p ≡ 0 → ⊥) → eqb (get_or p (length p - 1) 0) b ≡ ends b p
-unfolding ends
-ends_last b [] h = absurd (h refl)
-ends_last b (a ∷ []) h = refl
-ends_last b (a ∷ c ∷ p) h =
+ends-one b [] = refl
+ends-one b (a ∷ []) = one_byte a b
+ends-one b (a ∷ c ∷ p) =
     let e : length (a ∷ c ∷ p) - 1 ≡ suc (length (c ∷ p) - 1) = omega arith in
-    rw e (ends_last b (c ∷ p) (λ z. omega arith))
+    rw e (ends-one b (c ∷ p))
 
 -- ---- the name that is shown
 
-absolute-begins : (p : List ℕ) → is_absolute p ≡ begins slash p
-unfolding is_absolute begins
-absolute-begins [] = refl
-absolute-begins (b ∷ p) = refl
+absolute-starts : (p : List ℕ) → is_absolute p ≡ starts_with eqb p (slash ∷ [])
+unfolding is_absolute
+absolute-starts [] = refl
+absolute-starts (b ∷ p) = sym (one_byte b slash)
 
 -- an absolute path is shown resolved
-pub shown-resolved : (given resolved : List ℕ) → begins slash given ≡ true → resolved ≡ display_name given resolved
+pub shown-resolved : (given resolved : List ℕ) → starts_with eqb given (slash ∷ []) ≡ true → resolved ≡ display_name given resolved
 unfolding display_name
-shown-resolved given resolved e = rw (absolute-begins given, e)
+shown-resolved given resolved e = rw (absolute-starts given, e)
 
 -- a relative path is shown as given
-pub shown-given : (given resolved : List ℕ) → begins slash given ≡ false → given ≡ display_name given resolved
+pub shown-given : (given resolved : List ℕ) → starts_with eqb given (slash ∷ []) ≡ false → given ≡ display_name given resolved
 unfolding display_name
-shown-given given resolved e = rw (absolute-begins given, e)
-
--- in angle brackets
-pub angles-end : (name : List ℕ) → begins opening name ≡ true → ends closing name ≡ begins opening name && ends closing name
-angles-end name e = rw e
-
-pub angles-none : (name : List ℕ) → begins opening name ≡ false → false ≡ begins opening name && ends closing name
-angles-none name e = rw e
+shown-given given resolved e = rw (absolute-starts given, e)
 
 -- ---- pieces written one after the other
 

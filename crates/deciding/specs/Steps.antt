@@ -1,14 +1,12 @@
 -- What the functions inside the crate ensure, step by step; `Decisions.antt` and `Questions.antt` have what they come to.
-use Rattle.std.specs.Prelude.{ℕ, ◌≤◌, ◌≡◌, List, [], Bool, cond, length, Option}
+use Rattle.std.specs.Prelude.{ℕ, ◌≤◌, ◌≡◌, List, length}
 use Rattle.paths.specs.declared.Descriptor.{Descriptor}
 use Rattle.paths.specs.declared.Descriptor.TheVariants.{Path}
 use Rattle.paths.specs.Resolving.{max_path}
-use Rattle.paths.specs.Copying.{begun}
 use Rattle.table.specs.Carrying.{act_of}
 use Rattle.deciding.specs.declared.Decided.{Decided}
 use Rattle.deciding.specs.Decisions.{Decision}
-use Rattle.deciding.specs.Texts.{text_of}
-use Rattle.deciding.specs.Questions.{text_bytes, question_by}
+use Rattle.deciding.specs.Questions.{text_bytes}
 
 -- what the code decided, with the path q lent beside it, is this decision
 pub record Decides (decision : Decision) (q : List ℕ) (r : Decided) : Type 0 where
@@ -24,8 +22,3 @@ pub record HasText (d : Descriptor) (given resolved s : List ℕ) : Type 0 where
   pub room : text_bytes ≤ length s
   pub short : length resolved ≤ max_path
   pub brief : d ≡ Path → length given ≤ max_path
-
--- the question of what is given, if one would be asked, and the text space s after it
-pub record PutsQuestion (asks : Bool) (d : Descriptor) (given resolved s s' : List ℕ) (r : Option ℕ) : Type 0 where
-  pub answer : r ≡ question_by asks (text_of d given resolved)
-  pub space : s' ≡ begun (cond asks (text_of d given resolved) []) s

@@ -33,6 +33,7 @@ use walk::{AllowPartial, PermissionState};
 // ---- acts
 
 // Sets a switch in the table.
+#[tactic(auto, unfolding(crate::specs::Decisions::switch_on, table::specs::Carrying::act_of))]
 fn switch_action(mem: &[u8], bit: u8) -> Action
     requires { (holds mem.now ≡ true) × (0 < bit) × (bit ≤ 16) }
     ensures { (q : List ℕ) → act_of result q ≡ Some (switch_on (table_of mem.now) bit) }
@@ -41,6 +42,7 @@ fn switch_action(mem: &[u8], bit: u8) -> Action
 }
 
 // A yes.
+#[tactic(auto, unfolding(crate::specs::Decisions::grant_act, paths::specs::Giving::query_of, table::specs::Carrying::act_of))]
 pub fn grant_action(mem: &[u8], d: Descriptor) -> Action
     requires { holds mem.now ≡ true }
     ensures { (q : List ℕ) → act_of result q ≡ Some (grant_act (table_of mem.now) (query_of d q)) }
@@ -52,6 +54,7 @@ pub fn grant_action(mem: &[u8], d: Descriptor) -> Action
 }
 
 // A no.
+#[tactic(auto, unfolding(crate::specs::Decisions::deny_act, paths::specs::Giving::query_of, table::specs::Carrying::act_of))]
 fn deny_action(mem: &[u8], d: Descriptor) -> Action
     requires { holds mem.now ≡ true }
     ensures { (q : List ℕ) → act_of result q ≡ Some (deny_act (table_of mem.now) (query_of d q)) }
@@ -63,6 +66,7 @@ fn deny_action(mem: &[u8], d: Descriptor) -> Action
 }
 
 // The act that an answer makes; AllowAll is a yes with no path.
+#[tactic(auto, unfolding(crate::specs::Decisions::answer_act, crate::specs::Decisions::grant_act, paths::specs::Giving::query_of))]
 fn answer_action(mem: &[u8], d: Descriptor, response: PromptResponse) -> Action
     requires { holds mem.now ≡ true }
     ensures { (q : List ℕ) → act_of result q ≡ Some (answer_act (table_of mem.now) (query_of d q) response) }
@@ -77,6 +81,7 @@ fn answer_action(mem: &[u8], d: Descriptor, response: PromptResponse) -> Action
 // ---- the two ways to decide
 
 // Without asking: a state, and perhaps a text.
+#[tactic(auto, unfolding(crate::specs::Decisions::unasked, table::specs::Carrying::act_of))]
 fn unasked(state: PermissionState, writes: bool) -> Decided
     ensures { (q : List ℕ) → Decides (unasked state writes) q result }
 {
@@ -89,6 +94,7 @@ fn unasked(state: PermissionState, writes: bool) -> Decided
 }
 
 // What a call comes to by an answer.
+#[tactic(auto, unfolding(crate::specs::Decisions::state_by))]
 pub fn state_by(response: PromptResponse) -> PermissionState
     ensures { result ≡ state_by response }
 {
@@ -99,6 +105,7 @@ pub fn state_by(response: PromptResponse) -> PermissionState
 }
 
 // By the operator's answer.
+#[tactic(auto, unfolding(crate::specs::Decisions::asks))]
 fn asks(mem: &[u8], d: Descriptor, response: PromptResponse) -> Decided
     requires { holds mem.now ≡ true }
     ensures { (q : List ℕ) → Decides (asks (table_of mem.now) (query_of d q) response) q result }
@@ -114,6 +121,7 @@ fn asks(mem: &[u8], d: Descriptor, response: PromptResponse) -> Decided
 // ---- check
 
 // The mode of a check.
+#[tactic(auto, unfolding(crate::specs::Decisions::check_mode, paths::specs::Giving::query_of))]
 fn check_mode(d: Descriptor) -> AllowPartial
     ensures { (q : List ℕ) → result ≡ check_mode (query_of d q) }
 {
@@ -124,17 +132,20 @@ fn check_mode(d: Descriptor) -> AllowPartial
 }
 
 // A check, by the state of what is asked about.
+#[tactic(auto, unfolding(crate::specs::Decisions::check_by))]
 fn check_by(mem: &[u8], d: Descriptor, response: PromptResponse, state: PermissionState) -> Decided
     requires { holds mem.now ≡ true }
     ensures { (q : List ℕ) → Decides (check_by (table_of mem.now) (query_of d q) response state) q result }
 {
     match state {
+        PermissionState::Granted => unasked(state, false),
         PermissionState::Prompt if has_switch(mem, PROMPT) => asks(mem, d, response),
-        _ => unasked(state, state != PermissionState::Granted),
+        _ => unasked(state, true),
     }
 }
 
 // What a check decides; where every query is granted it passes without a walk.
+#[tactic(auto, unfolding(crate::specs::Decisions::check_desc))]
 fn check_desc(mem: &[u8], d: Descriptor, q: &[u8], response: PromptResponse) -> Decided
     requires { holds mem.now ≡ true }
     ensures { Decides (check_desc (table_of mem.now) (query_of d q.now) response) q.now result }
@@ -149,6 +160,7 @@ fn check_desc(mem: &[u8], d: Descriptor, q: &[u8], response: PromptResponse) -> 
 // ---- request
 
 // A request, by the state of what is asked about.
+#[tactic(auto, unfolding(crate::specs::Decisions::request_by))]
 fn request_by(
     mem: &[u8],
     d: Descriptor,
@@ -172,6 +184,7 @@ fn request_by(
 }
 
 // What a request decides; it queries in mode partial.
+#[tactic(auto, unfolding(crate::specs::Decisions::request_desc))]
 fn request_desc(mem: &[u8], d: Descriptor, q: &[u8], response: PromptResponse) -> Decided
     requires { holds mem.now ≡ true }
     ensures { Decides (request_desc (table_of mem.now) (query_of d q.now) response) q.now result }
@@ -183,6 +196,7 @@ fn request_desc(mem: &[u8], d: Descriptor, q: &[u8], response: PromptResponse) -
 // ---- either
 
 // What a call decides of what is resolved.
+#[tactic(auto, unfolding(crate::specs::Decisions::decide))]
 pub fn decide(mem: &[u8], call: Call, d: Descriptor, q: &[u8], response: PromptResponse) -> Decided
     requires { holds mem.now ≡ true }
     ensures { Decides (decide call (table_of mem.now) (query_of d q.now) response) q.now result }
@@ -196,6 +210,7 @@ pub fn decide(mem: &[u8], call: Call, d: Descriptor, q: &[u8], response: PromptR
 // ---- revoke
 
 // The act of a revoke: of a path, or of all.
+#[tactic(auto, unfolding(crate::specs::Decisions::revoke_act, paths::specs::Giving::query_of, table::specs::Carrying::act_of))]
 pub fn revoke_action(d: Descriptor) -> Action
     ensures { (q : List ℕ) → act_of result q ≡ Some (revoke_act (query_of d q)) }
 {

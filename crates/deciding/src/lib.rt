@@ -6,7 +6,7 @@ use walk::PermissionState;
 
 pub mod decisions;
 pub mod questioning;
-pub mod responses;
+mod responses;
 pub mod texts;
 
 // The bytes that a text can take: `read access to `, a name of 1,024 bytes and two quotes.

@@ -1,6 +1,5 @@
 // What a check or request would ask the operator, before the answer is known. Nothing changes here but the text space.
 ghost use Rattle.deciding.specs.Questions.{Questions};
-ghost use Rattle.deciding.specs.Steps.{HasText, PutsQuestion};
 
 use crate::decisions::decide;
 use crate::texts::write_text;
@@ -10,31 +9,13 @@ use paths::{Descriptor, MAX_PATH};
 use refusals::Refusal;
 use table::holding::holds_table;
 
-// Writes the question of what is given, if one would be asked, and says how long it is.
-fn put_question<'a>(
-    asks: bool,
-    d: Descriptor,
-    given: &'a [u8],
-    resolved: &'a [u8],
-    space: &mut [u8],
-) -> Option<usize>
-    requires { HasText d given.now resolved.now space.old }
-    ensures { PutsQuestion asks d given.now resolved.now space.old space.new result }
-{
-    if asks {
-        Some(write_text(space, d, given, resolved))
-    } else {
-        None
-    }
-}
-
 // The text that a check or request of a path as given with the working directory, or of reading as a whole, would ask, and how long it is; none, where
 // nothing would be asked.
-pub fn question<'a>(
+pub fn question(
     mem: &[u8],
     call: Call,
     d: Descriptor,
-    path: &'a [u8],
+    path: &[u8],
     cwd: &[u8],
     space: &mut [u8],
 ) -> Result<Option<usize>, Refusal>
@@ -50,6 +31,9 @@ pub fn question<'a>(
     let n = resolve_given(d, path, cwd, &mut resolved)?;
     let q = &resolved[..n];
     // any other answer would do: it makes no difference to whether the operator is asked
-    let decided = decide(mem, call, d, q, PromptResponse::Deny);
-    Ok(put_question(decided.asked, d, path, q, space))
+    if decide(mem, call, d, q, PromptResponse::Deny).asked {
+        Ok(Some(write_text(space, d, path, q)))
+    } else {
+        Ok(None)
+    }
 }

@@ -11,6 +11,7 @@ impl TryFrom<u32> for PromptResponse {
 
     ghost try_from_gives = { λ n r. r ≡ known_response (response_of n) };
 
+    #[tactic(auto, unfolding(crate::specs::Decisions::response_of, crate::specs::Decisions::known_response))]
     fn try_from(n: u32) -> Result<Self, Refusal> {
         match n {
             0 => Ok(PromptResponse::Deny),

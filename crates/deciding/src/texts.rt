@@ -7,25 +7,11 @@ ghost use Rattle.deciding.specs.Steps.{HasText};
 use paths::Descriptor;
 use paths::copying::append;
 
-// Whether a path begins with a byte.
-fn begins_with(p: &[u8], b: u8) -> bool
-    ensures { result ≡ begins b p.now }
-{
-    p.first() == Some(&b)
-}
-
-// Whether a path ends with a byte.
-fn ends_with(p: &[u8], b: u8) -> bool
-    ensures { result ≡ ends b p.now }
-{
-    p.last() == Some(&b)
-}
-
 // The name that is shown: a relative path as it was given, else the resolved path.
 fn display_name<'a>(given: &'a [u8], resolved: &'a [u8]) -> &'a [u8]
     ensures { result.now ≡ display_name given.now resolved.now }
 {
-    if begins_with(given, b'/') {
+    if given.starts_with(b"/") {
         resolved
     } else {
         given
@@ -36,7 +22,7 @@ fn display_name<'a>(given: &'a [u8], resolved: &'a [u8]) -> &'a [u8]
 fn is_in_angles(name: &[u8]) -> bool
     ensures { result ≡ begins opening name.now && ends closing name.now }
 {
-    begins_with(name, b'<') && ends_with(name, b'>')
+    name.starts_with(b"<") && name.ends_with(b">")
 }
 
 // Writes a name as it is shown: in double quotes, unless it is in angle brackets.
@@ -53,12 +39,7 @@ fn append_name(space: &mut [u8], at: usize, name: &[u8]) -> usize
 }
 
 // Writes the text of what is asked about from the space's start on, and says how long it is.
-pub fn write_text<'a>(
-    space: &mut [u8],
-    d: Descriptor,
-    given: &'a [u8],
-    resolved: &'a [u8],
-) -> usize
+pub fn write_text(space: &mut [u8], d: Descriptor, given: &[u8], resolved: &[u8]) -> usize
     requires { HasText d given.now resolved.now space.old }
     ensures { Appends (text_of d given.now resolved.now) space.old 0 space.new result }
 {

@@ -1,33 +1,14 @@
--- `request_by` meets its contract, state by state.
-use mathlib.Core.Path.{refl, sym, ◌∙◌}
+-- `request_by` meets its contract: Prompt that asks nobody is Denied, and any other state but Granted is answered as it is.
+use Rattle.std.proofs.Common.{arith}
+use Rattle.std.proofs.lemmas.Grind.{common_steps}
 use Rattle.deciding.specs.Decisions.{request_by}
 use Rattle.deciding.proofs.DecisionLaws.{decides-same}
 use Rattle.deciding.proofs.decisions.request_by.Goals as goal
 
-pub returns-then-has_switch : goal.returns-then-has_switch
+pub returns-in-Prompt-2 : goal.returns-in-Prompt-2
 unfolding request_by
-returns-then-has_switch c q = decides-same (rw (c.in-Prompt.is, sym c.has_switch.ensures ∙ c.if-has_switch.true)) (c.asks.ensures q)
+returns-in-Prompt-2 c q = decides-same (grind (arith, common_steps)) (c.unasked.ensures q)
 
-pub returns-in-Granted : goal.returns-in-Granted
+pub returns-in_default : goal.returns-in_default
 unfolding request_by
-returns-in-Granted c q = rw c.in-Granted.is (record { state = refl; asked = refl; writes = refl; act = c.grant_action.ensures q })
-
-pub returns-in-GrantedPartial : goal.returns-in-GrantedPartial
-unfolding request_by
-returns-in-GrantedPartial c q = decides-same (rw c.in-GrantedPartial.is) (c.unasked.ensures q)
-
-pub returns-else-has_switch : goal.returns-else-has_switch
-unfolding request_by
-returns-else-has_switch c q = decides-same (rw (c.in-Prompt.is, sym c.has_switch.ensures ∙ c.if-has_switch.false)) (c.unasked-in-Prompt.ensures q)
-
-pub returns-in-Denied : goal.returns-in-Denied
-unfolding request_by
-returns-in-Denied c q = decides-same (rw c.in-Denied.is) (c.unasked-in-Denied.ensures q)
-
-pub returns-in-DeniedPartial : goal.returns-in-DeniedPartial
-unfolding request_by
-returns-in-DeniedPartial c q = decides-same (rw c.in-DeniedPartial.is) (c.unasked-in-DeniedPartial.ensures q)
-
-pub returns-in-Ignored : goal.returns-in-Ignored
-unfolding request_by
-returns-in-Ignored c q = decides-same (rw c.in-Ignored.is) (c.unasked-in-Ignored.ensures q)
+returns-in_default c q = decides-same (grind (arith, common_steps)) (c.unasked-in_default.ensures q)

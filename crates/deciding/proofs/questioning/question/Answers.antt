@@ -1,11 +1,11 @@
--- `question` meets its contract: the first cause is found, or the question is put.
+-- `question` meets its contract: the first cause is found, or the question is written, if the call would ask.
 use mathlib.Core.Path.{sym, ◌∙◌}
 use native.Mathlib.Omega.{arith}
+use Rattle.std.proofs.Common.{rules}
 use lib.Seq.{length-take-le}
 use Rattle.paths.proofs.GivingLaws.{gives-stands}
 use Rattle.deciding.specs.Questions.{would_ask}
-use Rattle.deciding.proofs.QuestionLaws.{text-room}
-use Rattle.deciding.proofs.QuestionLaws.{question-no-table, question-no-space, question-refused, question-put}
+use Rattle.deciding.proofs.QuestionLaws.{text-room, question-no-table, question-no-space, question-refused, question-asked, question-none}
 use Rattle.deciding.proofs.questioning.question.Goals as goal
 
 pub returns-then-not-holds_table : goal.returns-then-not-holds_table
@@ -14,26 +14,27 @@ returns-then-not-holds_table c = question-no-table (sym c.holds_table.ensures �
 pub returns-then-space-lt-TEXT_BYTES : goal.returns-then-space-lt-TEXT_BYTES
 returns-then-space-lt-TEXT_BYTES c = question-no-space (sym c.holds_table.ensures ∙ c.if-not-holds_table.false) (omega arith)
 
+pub returns-in_err-n : goal.returns-in_err-n
+returns-in_err-n c =
+    question-refused (sym c.holds_table.ensures ∙ c.if-not-holds_table.false) (omega arith) c.resolve_given.ensures c.in_err-n.was (search rules)
+
 pub slice_bounds-resolved-end : goal.slice_bounds-resolved-end
-slice_bounds-resolved-end c = (gives-stands c.resolve_given.ensures c.in-Resolved.is).room
+slice_bounds-resolved-end c = (gives-stands c.resolve_given.ensures c.in_ok-n.was).room
 
-pub slice_bounds-decide-end : goal.slice_bounds-decide-end
-slice_bounds-decide-end c = sym (length-take-le _ _ (gives-stands c.resolve_given.ensures c.in-Resolved.is).room)
+pub slice_bounds-q-end : goal.slice_bounds-q-end
+slice_bounds-q-end c = sym (length-take-le _ _ (gives-stands c.resolve_given.ensures c.in_ok-n.was).room)
 
-pub decide-decided-requires : goal.decide-decided-requires
-decide-decided-requires c =
-    sym c.holds_table.ensures ∙ c.if-not-holds_table.false
+pub write_text-requires : goal.write_text-requires
+write_text-requires c = text-room (omega arith) (gives-stands c.resolve_given.ensures c.in_ok-n.was)
 
-pub put_question-requires : goal.put_question-requires
-put_question-requires c =
-    text-room (omega arith) (gives-stands c.resolve_given.ensures c.in-Resolved.is)
-
-pub returns-in-Refused : goal.returns-in-Refused
-returns-in-Refused c =
-    question-refused (sym c.holds_table.ensures ∙ c.if-not-holds_table.false) (omega arith) c.resolve_given.ensures c.in-Refused.is
-
-pub returns-in-Resolved : goal.returns-in-Resolved
+pub returns-then-decide : goal.returns-then-decide
 unfolding would_ask
-returns-in-Resolved c =
-    question-put (sym c.holds_table.ensures ∙ c.if-not-holds_table.false) (omega arith) c.resolve_given.ensures
-    c.in-Resolved.is c.decide-decided.ensures.asked c.put_question.ensures
+returns-then-decide c =
+    question-asked (sym c.holds_table.ensures ∙ c.if-not-holds_table.false) (omega arith) c.resolve_given.ensures c.in_ok-n.was
+    (sym c.if-decide.true ∙ c.decide.ensures.asked) c.write_text.ensures
+
+pub returns-else-decide : goal.returns-else-decide
+unfolding would_ask
+returns-else-decide c =
+    question-none (sym c.holds_table.ensures ∙ c.if-not-holds_table.false) (omega arith) c.resolve_given.ensures c.in_ok-n.was
+    (sym c.if-decide.false ∙ c.decide.ensures.asked)

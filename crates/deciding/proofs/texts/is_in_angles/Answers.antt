@@ -1,11 +1,12 @@
--- Where the name begins with `<`, its last byte decides. Assumes nothing.
-use mathlib.Core.Path.{sym, ◌∙◌}
-use Rattle.deciding.proofs.TextLaws.{angles-end, angles-none}
+-- `is_in_angles` meets its contract: the first byte and the last decide.
+use Rattle.std.proofs.Common.{arith}
+use Rattle.std.proofs.lemmas.Grind.{common_steps}
+use Rattle.deciding.specs.Texts.{opening, closing}
+use Rattle.deciding.proofs.TextLaws.{starts-one, ends-one}
 use Rattle.deciding.proofs.texts.is_in_angles.Goals as goal
 
-pub returns-then-begins_with : goal.returns-then-begins_with
-returns-then-begins_with c =
-    c.ends_with.ensures ∙ angles-end _ (sym c.begins_with.ensures ∙ c.if-begins_with.true)
+pub returns-then-starts_with : goal.returns-then-starts_with
+returns-then-starts_with c = grind (arith, common_steps, starts-one opening c.args.name.now, ends-one closing c.args.name.now)
 
-pub returns : goal.returns
-returns c = angles-none _ (sym c.begins_with.ensures ∙ c.if-begins_with.false)
+pub returns-else-starts_with : goal.returns-else-starts_with
+returns-else-starts_with c = grind (arith, common_steps, starts-one opening c.args.name.now)

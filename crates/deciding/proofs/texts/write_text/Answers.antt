@@ -1,8 +1,7 @@
 -- `read access` is written, and with a path ` to ` and the name behind it.
 use mathlib.Core.Path.{ap}
 use native.Mathlib.Omega.{arith}
-use lib.ListN.{length, take}
-use lib.Seq.{length-take-le}
+use lib.ListN.{length}
 use Rattle.deciding.specs.Texts.{text_of}
 use Rattle.deciding.proofs.TextLaws.{text-named, length-shown}
 use Rattle.deciding.proofs.texts.write_text.Goals as goal
@@ -13,13 +12,9 @@ append-end-requires c = omega (arith, c.requires.room)
 pub append-at-requires : goal.append-at-requires
 append-at-requires c = omega (arith, c.requires.room)
 
-pub display_name-requires : goal.display_name-requires
-display_name-requires c = c.requires.inside
-
 pub append_name-requires : goal.append_name-requires
 append_name-requires c =
-    let short = length-take-le c.args.n c.args.resolved.now c.requires.inside in
-    omega (arith, ap length c.display_name.ensures, c.requires.room, length-shown c.args.given.now (take c.args.n c.args.resolved.now) (c.requires.brief c.in-Path.is) (omega (arith, short, c.requires.short)))
+    omega (arith, ap length c.display_name.ensures, c.requires.room, length-shown c.args.given.now c.args.resolved.now (c.requires.brief c.in-Path.is) c.requires.short)
 
 pub returns-in-NoPath : goal.returns-in-NoPath
 unfolding text_of

@@ -18,7 +18,8 @@ use Rattle.table.proofs.Puts.{encode-fits}
 use Rattle.table.proofs.TableCopies.{put-by}
 use Rattle.records.specs.Records.{Read}
 use Rattle.records.proofs.WrittenLaws.{never}
-use Rattle.images.specs.declared.EntryRead.TheVariants as entry-answer
+use Rattle.images.specs.declared.EntryRead.{EntryRead}
+use Rattle.images.specs.declared.ImageRead.{ImageRead}
 use Rattle.images.specs.Images.{image_head, Image, all_entry_words, image_words, read_entry, with_entry, read_entries, read_image}
 use Rattle.images.specs.Steps.{entry_answer, entry_into, IsRead, loaded_by}
 use Rattle.images.proofs.ImageLaws.{entries-read}
@@ -51,11 +52,11 @@ pub record Loading (ws : List ℕ) (es : List Entry) (m m' : List ℕ) (from at 
   pub same : length m' ≡ length m
 
 -- the entries of an image that was read
-abbrev pub entries_of : {image : Option Image} {switches marks count : ℕ} → IsRead image switches marks count → List Entry
+abbrev pub entries_of : {image : Option Image} {told : ImageRead} → IsRead image told → List Entry
 entries_of R = R.value.table.entries
 
-pub loading-start : {ws : List ℕ} {switches marks count : ℕ} (R : IsRead (read_image ws) switches marks count) (m : List ℕ) → table_bytes ≤ length m
-    → Loading ws (entries_of R) m m image_head table_head count
+pub loading-start : {ws : List ℕ} {told : ImageRead} (R : IsRead (read_image ws) told) (m : List ℕ) → table_bytes ≤ length m
+    → Loading ws (entries_of R) m m image_head table_head told.count
 unfolding image_words
 loading-start {ws} R m long =
     let es = entries_of R in
@@ -74,22 +75,22 @@ pub record Stood (n : ℕ) (s p : List ℕ) : Type 0 where
   pub room : n ≤ length s
   pub is : take n s ≡ p
 
-pub path-stands : {ws : List ℕ} {at : ℕ} {kind : Kind} {n end : ℕ} (E : Told ws at kind n end) (s : List ℕ) {s' : List ℕ} → s' ≡ entry_into (read_entry (drop at ws)) s
-    → Stood n s' E.entry.path
+pub path-stands : {ws : List ℕ} {at : ℕ} {t : EntryRead} (E : Told ws at t) (s : List ℕ) {s' : List ℕ} → s' ≡ entry_into (read_entry (drop at ws)) s
+    → Stood t.size s' E.entry.path
 unfolding entry_into begun
-path-stands {n = n} E s e =
+path-stands {t = t} E s e =
     let is = e ∙ ap (λ (o : Option (Read Entry)). entry_into o s) E.read in
     record {
       room = rw (is, length-append E.entry.path _) (omega (arith, E.size));
-      is = rw is (take_at _ _ n (sym E.size));
+      is = rw is (take_at _ _ t.size (sym E.size));
     }
 
 module _ {ws : List ℕ} {es : List Entry} {m m' : List ℕ} {from at left : ℕ} (L : Loading ws es m m' from at left) where
-  pub loading-never : 0 < left → entry-answer.Malformed ≡ entry_answer from (read_entry (drop from ws)) → ⊥
+  pub loading-never : 0 < left → None ≡ entry_answer from (read_entry (drop from ws)) → ⊥
   loading-never h e = never (sym (entries-stop left (drop from ws) h (told-nothing from _ e)) ∙ L.reads)
 
-  module _ {kind : Kind} {n end : ℕ} (h : 0 < left) (E : Told ws from kind n end) where
-    here : Split E.entry (read_entries (left - 1) (drop end ws)) L.rest
+  module _ {t : EntryRead} (h : 0 < left) (E : Told ws from t) where
+    here : Split E.entry (read_entries (left - 1) (drop t.end ws)) L.rest
     here = split E.entry _ (sym (entries-go left (drop from ws) h E.read) ∙ L.reads)
 
     sizes : length (encode_all L.rest) ≡ length (encode_entry E.entry) + length (encode_all here.others)
@@ -99,8 +100,8 @@ module _ {ws : List ℕ} {es : List Entry} {m m' : List ℕ} {from at left : ℕ
     pub loading-fits : at + entry_head + length E.entry.path ≤ length m'
     loading-fits = omega (arith, L.room, sizes, length-encode_entry E.entry)
 
-    pub loading-next : {p m'' : List ℕ} {at' : ℕ} → p ≡ E.entry.path → Appends (encode_entry (record { kind = kind; path = p })) m' at m'' at'
-        → length m'' ≡ length m' → Loading ws es m m'' end at' (left - 1)
+    pub loading-next : {p m'' : List ℕ} {at' : ℕ} → p ≡ E.entry.path → Appends (encode_entry (record { kind = t.kind; path = p })) m' at m'' at'
+        → length m'' ≡ length m' → Loading ws es m m'' t.end at' (left - 1)
     unfolding encode_all
     loading-next path A' same =
         let A = appends-as (λ i. encode_entry (record { kind = E.same_kind i; path = path i })) A' in
@@ -121,12 +122,12 @@ module _ {ws : List ℕ} {es : List Entry} {m m' : List ℕ} {from at left : ℕ
       L.goes (appends-as (ap encode_all (sym none_left)) (appends-none m' at))
 
 -- the table is the image's
-pub loaded : (ws : List ℕ) {m m' m'' : List ℕ} {switches marks count at : ℕ} (R : IsRead (read_image ws) switches marks count) → table_bytes ≤ length m
-    → Appends (encode_all (entries_of R)) m table_head m' at → m'' ≡ overwrite m' 0 (head_bytes count switches marks) → m'' ≡ loaded_by (read_image ws) m
+pub loaded : (ws : List ℕ) {m m' m'' : List ℕ} {at : ℕ} {told : ImageRead} (R : IsRead (read_image ws) told) → table_bytes ≤ length m
+    → Appends (encode_all (entries_of R)) m table_head m' at → m'' ≡ overwrite m' 0 (head_bytes told.count told.switches told.marks) → m'' ≡ loaded_by (read_image ws) m
 unfolding loaded_by
 loaded ws {m} R long A e =
     put-by R.value.table m (image-writable ws R.is).within long A (rw (← R.same-switches, ← R.same-marks, ← R.same_count) e) ∙ rw R.is
 
 -- there are no more of them than a table has
-pub few-read : (ws : List ℕ) {switches marks count : ℕ} → IsRead (read_image ws) switches marks count → count < 65536
+pub few-read : (ws : List ℕ) {told : ImageRead} → IsRead (read_image ws) told → told.count < 65536
 few-read ws R = omega (arith, R.same_count, (valid-parts _ (image-writable ws R.is).within).few)

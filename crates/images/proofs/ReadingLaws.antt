@@ -1,4 +1,5 @@
 -- Laws of reading an image: the answer at each way out of the code.
+use Rattle.refusals.proofs.CauseLaws.{Some-injective}
 use Rattle.std.specs.Prelude.{Option, None, Some}
 use Prim.Native.Nat.{ℕ, zero, suc, ◌+◌, ◌-◌, ◌*◌, ◌/◌, ◌≤◌, ◌<◌}
 use mathlib.Core.Path.{◌≡◌, refl, sym, ap, ◌∙◌}
@@ -19,17 +20,15 @@ use Rattle.table.proofs.Within.{pred-suc}
 use Rattle.table.proofs.ScanningLaws.{marks_after, marks-after}
 use Rattle.table.proofs.BitLaws.{marked-small}
 use Rattle.records.specs.declared.PathRead.{PathRead}
-use Rattle.records.specs.declared.words.Word.TheVariants.{Is, End}
 use Rattle.records.specs.declared.words.Front.{Front}
-use Rattle.records.specs.Records.{act_unit, number_bits, Read, bytes_from, if_resolved}
+use Rattle.records.specs.Records.{act_unit, number_bits, path_words, Read, bytes_from, if_resolved}
 use Rattle.records.specs.Words.{first_word, front_at}
 use Rattle.records.specs.Steps.{run_of, path_answer, path_into, ReadsPath}
-use Rattle.records.proofs.WordLaws.{from_place, no_word, Stands, stands, OfRun, run_alone, headed}
+use Rattle.records.proofs.WordLaws.{from_place, no_word, Stands, stands, of-run, run_alone, front-headed}
 use Rattle.records.proofs.RecordLaws.{path-short}
 use Rattle.records.proofs.ReadingLaws.{no-run-word}
 use Rattle.images.specs.declared.EntryRead.{EntryRead}
-use Rattle.images.specs.declared.EntryRead.TheVariants as entry-answer
-use Rattle.images.specs.declared.ImageRead.TheVariants as answer
+use Rattle.images.specs.declared.ImageRead.{ImageRead}
 use Rattle.images.specs.Images.{
   Image,
   number_kind,
@@ -54,7 +53,7 @@ use Rattle.images.specs.Images.{
   read_table,
   read_image,
 }
-use Rattle.images.specs.Steps.{kind_entry, entry_answer, entry_into, ReadsEntry, is_end, are_entries, image_answer, IsRead}
+use Rattle.images.specs.Steps.{entry_answer, entry_into, ReadsEntry, is_end, are_entries, image_answer, IsRead}
 use Rattle.images.proofs.WrittenLaws.{entry-written, entries-written}
 
 and-off : (b : Bool) → b && false ≡ false
@@ -63,93 +62,82 @@ and-off false = refl
 
 -- ---- an entry
 
-reads-no-entry : {at : ℕ} {o : Option (Read Entry)} {space : List ℕ} → o ≡ None → ReadsEntry at o space entry-answer.Malformed space
+reads-no-entry : {at : ℕ} {o : Option (Read Entry)} {space : List ℕ} → o ≡ None → ReadsEntry at o space None space
 unfolding entry_answer entry_into
 reads-no-entry e = record { answer = rw e; bytes = rw e }
 
-pub entry-at-end : (ws : List ℕ) (at : ℕ) {space : List ℕ} → first_word (drop at ws) ≡ End → ReadsEntry at (read_entry (drop at ws)) space entry-answer.Malformed space
+pub entry-at-end : (ws : List ℕ) (at : ℕ) {space : List ℕ} → first_word (drop at ws) ≡ None → ReadsEntry at (read_entry (drop at ws)) space None space
 unfolding read_entry
 entry-at-end ws at e = reads-no-entry (ap read_entry (no_word (drop at ws) e))
 
--- an entry of a kind with a path that was read
-of-path : (at behind : ℕ) (kind : Kind) (o : Option (Read (List ℕ))) {space after : List ℕ} {p : PathRead} → behind ≡ at + 1 → ReadsPath behind o space p after
-    → ReadsEntry at (with_kind kind o) space (kind_entry kind p) after
-unfolding with_kind kind_entry entry_answer entry_into entry_words path_answer path_into
+-- an entry of a kind, by what reading its path answered
+abbrev pub entry_by : Kind → Option PathRead → Option EntryRead
+entry_by kind None = None
+entry_by kind (Some p) = Some (record { kind = kind; size = p.size; end = p.end })
+
+of-path : (at behind : ℕ) (kind : Kind) (o : Option (Read (List ℕ))) {space after : List ℕ} {p : Option PathRead} → behind ≡ at + 1 → ReadsPath behind o space p after
+    → ReadsEntry at (with_kind kind o) space (entry_by kind p) after
+unfolding with_kind entry_answer entry_into entry_words path_answer path_into
 of-path at behind kind None e R = record { answer = rw R.answer; bytes = R.bytes }
-of-path at behind kind (Some p) e R = record {
-  answer = rw R.answer (ap (entry-answer.Entry kind (length p.value)) (omega arith));
-  bytes = R.bytes;
-}
+of-path at behind kind (Some p) e R =
+    let end : at + 1 + length (path_words p.value) ≡ at + suc (length (path_words p.value)) = omega arith in
+    record { answer = rw (R.answer, e, end); bytes = R.bytes }
 
 -- a word w stands where an entry begins
 module _ {ws : List ℕ} {at w behind : ℕ} (S : Stands ws at w behind) where
-  no-entry-word : {space : List ℕ} → is_entry_word w ≡ false → ReadsEntry at (read_entry (drop at ws)) space entry-answer.Malformed space
+  pub no-entry-word : {space : List ℕ} → is_entry_word w ≡ false → ReadsEntry at (read_entry (drop at ws)) space None space
   unfolding read_entry
   no-entry-word e = reads-no-entry (ap read_entry S.words ∙ rw e)
 
-  pub entry_other : {space : List ℕ} → (w / 262144 ≡ entry_kind * 1024 → ⊥) → ReadsEntry at (read_entry (drop at ws)) space entry-answer.Malformed space
-  unfolding is_entry_word
-  entry_other k = no-entry-word (rw (ne_eqb (w / 262144) (entry_kind * 1024) k))
-
-  pub entry-empty : {space : List ℕ} → size_bits w ≡ 0 → ReadsEntry at (read_entry (drop at ws)) space entry-answer.Malformed space
-  unfolding is_entry_word
-  entry-empty e = no-entry-word (rw (lt-leb 1 (size_bits w) (omega arith), and-off (eqb (w / 262144) (entry_kind * 1024))))
-
-  pub entry-long : {space : List ℕ} → max_path < size_bits w → ReadsEntry at (read_entry (drop at ws)) space entry-answer.Malformed space
-  unfolding is_entry_word
-  entry-long l = no-entry-word (rw (lt-leb (size_bits w) max_path l, and-off (eqb (w / 262144) (entry_kind * 1024) && leb 1 (size_bits w))))
-
-  pub entry-by : {kind : Kind} {space after : List ℕ} {p : PathRead} {r : EntryRead} → w / 262144 ≡ entry_kind * 1024 → (size_bits w ≡ 0 → ⊥) → size_bits w ≤ max_path
-      → kind ≡ kind_from (kind_bits w) → ReadsPath behind (if_resolved (bytes_from (size_bits w) (drop behind ws))) space p after → r ≡ kind_entry kind p
-      → ReadsEntry at (read_entry (drop at ws)) space r after
-  unfolding read_entry is_entry_word
-  entry-by {kind} {space} {after} {p} {r} k some_byte short is R a =
-      let word : is_entry_word w ≡ true =
-      rw (eq-eqb (w / 262144) (entry_kind * 1024) k, le-leb 1 (size_bits w) (omega arith), le-leb (size_bits w) max_path short)
+  pub entry-word : {space after : List ℕ} {p : Option PathRead} → is_entry_word w ≡ true
+      → ReadsPath behind (if_resolved (bytes_from (size_bits w) (drop behind ws))) space p after
+      → ReadsEntry at (read_entry (drop at ws)) space (entry_by (kind_from (kind_bits w)) p) after
+  unfolding read_entry
+  entry-word {space} {after} {p} e R =
+      let read : read_entry (drop at ws) ≡ with_kind (kind_from (kind_bits w)) (if_resolved (bytes_from (size_bits w) (drop behind ws))) =
+      ap read_entry S.words ∙ rw (e, S.next)
       in
-      let read : read_entry (drop at ws) ≡ with_kind kind (if_resolved (bytes_from (size_bits w) (drop behind ws))) =
-      ap read_entry S.words ∙ rw (word, S.next, is)
-      in
-      rw (read, a) (of-path at behind kind _ S.next R)
+      rw read (of-path at behind (kind_from (kind_bits w)) _ S.next R)
 
 -- what the answer tells of the entry that was read
-pub record Told (ws : List ℕ) (at : ℕ) (kind : Kind) (n end : ℕ) : Type 0 where
+pub record Told (ws : List ℕ) (at : ℕ) (t : EntryRead) : Type 0 where
   pub entry : Entry
-  pub read : read_entry (drop at ws) ≡ Some (record { value = entry; rest = drop end ws })
+  pub read : read_entry (drop at ws) ≡ Some (record { value = entry; rest = drop t.end ws })
   pub is : is_entry entry ≡ true
-  pub same_kind : kind ≡ entry.kind
-  pub size : n ≡ length entry.path
-  pub short : n ≤ max_path
-  pub inside : end ≤ length ws
+  pub same_kind : t.kind ≡ entry.kind
+  pub size : t.size ≡ length entry.path
+  pub short : t.size ≤ max_path
+  pub inside : t.end ≤ length ws
 
-pub told : (ws : List ℕ) (at : ℕ) {kind : Kind} {n end : ℕ} → entry-answer.Entry kind n end ≡ entry_answer at (read_entry (drop at ws)) → Told ws at kind n end
+pub told : (ws : List ℕ) (at : ℕ) {t : EntryRead} → Some t ≡ entry_answer at (read_entry (drop at ws)) → Told ws at t
 unfolding entry_answer is_entry entry_words
-told ws at {kind} {n} {end} e = go (read_entry (drop at ws)) refl e
+told ws at {t} e = go (read_entry (drop at ws)) refl e
   where
-    go : (o : Option (Read Entry)) → read_entry (drop at ws) ≡ o → entry-answer.Entry kind n end ≡ entry_answer at o → Told ws at kind n end
-    go None f q = let z : ◌≡◌ {A = ℕ} 0 1 = cc in absurd (omega arith)
+    go : (o : Option (Read Entry)) → read_entry (drop at ws) ≡ o → Some t ≡ entry_answer at o → Told ws at t
+    go None f q = cc
     go (Some r) f q =
         let W = entry-written (drop at ws) f in
         let L = length (entry_words r.value) in
-        let size : n ≡ length r.value.path = cc in
-        let ends : end ≡ at + L = cc in
-        let rest : r.rest ≡ drop end ws =
+        let same = Some-injective _ _ q in
+        let size : t.size ≡ length r.value.path = ap (λ (x : EntryRead). x.size) same in
+        let ends : t.end ≡ at + L = ap (λ (x : EntryRead). x.end) same in
+        let rest : r.rest ≡ drop t.end ws =
         sym (drop_at (entry_words r.value) r.rest L refl) ∙ ap (drop L) (sym W.words) ∙ drop-drop L at ws ∙ ap (λ (k : ℕ). drop k ws) (sym ends)
         in
         record {
           entry = r.value;
           read = f ∙ ap (λ (l : List ℕ). Some (record { value = r.value; rest = l })) rest;
           is = W.entry;
-          same_kind = cc;
+          same_kind = ap (λ (x : EntryRead). x.kind) same;
           size = size;
           short = omega (arith, path-short r.value.path W.entry);
           inside = omega (arith, length-drop at ws, ap length W.words ∙ length-append (entry_words r.value) r.rest);
         }
 
-pub told-nothing : (at : ℕ) (o : Option (Read Entry)) → entry-answer.Malformed ≡ entry_answer at o → o ≡ None
+pub told-nothing : (at : ℕ) (o : Option (Read Entry)) → None ≡ entry_answer at o → o ≡ None
 unfolding entry_answer
 told-nothing at None e = refl
-told-nothing at (Some r) e = let z : ◌≡◌ {A = ℕ} 0 1 = cc in absurd (omega arith)
+told-nothing at (Some r) e = cc
 
 -- ---- entries one after another
 
@@ -199,12 +187,12 @@ pub testing-start : (ws : List ℕ) (from count marks : ℕ) → from ≤ length
 testing-start ws from count marks inside few = record { goes = from_start marks _; inside = inside; small = omega arith; few = omega arith }
 
 module _ {ws : List ℕ} {from count marks at left total seen : ℕ} (T : Testing ws from count marks at left total seen) where
-  pub testing-stops : 0 < left → entry-answer.Malformed ≡ entry_answer at (read_entry (drop at ws)) → false ≡ are_entries marks (read_entries count (drop from ws))
+  pub testing-stops : 0 < left → None ≡ entry_answer at (read_entry (drop at ws)) → false ≡ are_entries marks (read_entries count (drop from ws))
   unfolding are_from
   testing-stops h e = sym (T.goes ∙ ap (are_from total seen marks) (entries-stop left (drop at ws) h (told-nothing at _ e)))
 
-  pub testing-next : {kind : Kind} {n end seen' : ℕ} → 0 < left → Told ws at kind n end → seen' ≡ marked kind seen
-      → Testing ws from count marks end (left - 1) (total + n) seen'
+  pub testing-next : {t : EntryRead} {seen' : ℕ} → 0 < left → Told ws at t → seen' ≡ marked t.kind seen
+      → Testing ws from count marks t.end (left - 1) (total + t.size) seen'
   testing-next h E m = record {
     goes =
         T.goes
@@ -254,18 +242,22 @@ table-if run number switches marks r low few each = go r.rest refl
     go [] e = rw (le-leb (length r.value) max_entries few, each, le-leb switches max_switches low, and-on (leb (path_bytes r.value) max_path_bytes), and-on (leb (path_bytes r.value) max_path_bytes))
     go (w ∷ ws) e = refl
 
+-- what reading tells of an image
+abbrev pub image_told : (run number switches marks count : ℕ) → Option ImageRead
+image_told run number switches marks count = Some (record { run = run; number = number; switches = switches; marks = marks; count = count })
+
 answered : (run number switches marks count : ℕ) (ws : List ℕ) → switches ≤ max_switches → count ≤ max_entries
     → image_answer (with_entries run number switches marks (read_entries count ws))
-    ≡ cond (are_entries marks (read_entries count ws)) (answer.Image run number switches marks count) answer.Malformed
+    ≡ cond (are_entries marks (read_entries count ws)) (image_told run number switches marks count) None
 unfolding with_entries image_answer are_entries
 answered run number switches marks count ws low few = go (read_entries count ws) refl
   where
-    picked : (b : Bool) (i : Image) → image_answer (cond b (Some i) None) ≡ cond b (image_answer (Some i)) answer.Malformed
+    picked : (b : Bool) (i : Image) → image_answer (cond b (Some i) None) ≡ cond b (image_answer (Some i)) None
     picked true i = refl
     picked false i = refl
 
     go : (o : Option (Read (List Entry))) → read_entries count ws ≡ o
-        → image_answer (with_entries run number switches marks o) ≡ cond (are_entries marks o) (answer.Image run number switches marks count) answer.Malformed
+        → image_answer (with_entries run number switches marks o) ≡ cond (are_entries marks o) (image_told run number switches marks count) None
     go None e = refl
     go (Some r) e =
         let W = entries-written count ws e in
@@ -289,7 +281,7 @@ too_many run number switches marks count ws many = go (read_entries count ws) re
 
 -- ---- an image by its front
 
-run-missing : (ws : List ℕ) → run_of (first_word ws) ≡ 0 → read_image ws ≡ None
+run-missing : (ws : List ℕ) → run_of (first_word ws) ≡ None → read_image ws ≡ None
 unfolding first_word read_image
 run-missing [] e = refl
 run-missing (w ∷ ws) e = rw (no-run-word w e)
@@ -299,26 +291,26 @@ pub record Fronted (ws : List ℕ) (run a b at : ℕ) : Type 0 where
   pub reads : read_image ws ≡ read_table run (a ∷ b ∷ drop at ws)
   pub inside : at ≤ length ws
 
-module _ (ws : List ℕ) {run : ℕ} {f : Front} (F : f ≡ front_at ws 0) where
-  pub without-run : run ≡ run_of f.run → run ≡ 0 → answer.Malformed ≡ image_answer (read_image ws)
+module _ (ws : List ℕ) {f : Front} (F : f ≡ front_at ws 0) where
+  pub without-run : None ≡ run_of f.run → None ≡ image_answer (read_image ws)
   unfolding image_answer
-  without-run r z = rw (run-missing ws (ap (λ (g : Front). run_of g.run) (sym F) ∙ sym r ∙ z))
+  without-run r = rw (run-missing ws (ap (λ (g : Front). run_of g.run) (sym F) ∙ sym r))
 
-  module _ (R : OfRun f.run run) where
-    pub no-number-word : f.head ≡ End → answer.Malformed ≡ image_answer (read_image ws)
+  module _ {run : ℕ} (r : Some run ≡ run_of f.run) where
+    pub no-number-word : f.head ≡ None → None ≡ image_answer (read_image ws)
     unfolding read_image read_table image_answer
-    no-number-word e = rw (run_alone ws 0 F R e, R.right)
+    no-number-word e = let R = of-run f.run r in rw (run_alone ws 0 F R e, R.right)
 
-    pub no-table-word : {a : ℕ} → f.head ≡ Is a → f.next ≡ End → answer.Malformed ≡ image_answer (read_image ws)
+    pub no-table-word : {a : ℕ} → f.head ≡ Some a → f.next ≡ None → None ≡ image_answer (read_image ws)
     unfolding read_image read_table image_answer
     no-table-word {a} e g =
-        let H = headed ws 0 F R e in
+        let H = front-headed ws 0 F r e in
         rw (H.words ∙ ap (λ (l : List ℕ). H.of_run.value ∷ a ∷ l) (no_word (drop 2 ws) (sym H.next ∙ g)), H.of_run.right)
 
-    pub fronted : {a b : ℕ} → f.head ≡ Is a → f.next ≡ Is b → Fronted ws run a b f.at
+    pub fronted : {a b : ℕ} → f.head ≡ Some a → f.next ≡ Some b → Fronted ws run a b f.at
     unfolding read_image
     fronted {a} {b} e g =
-        let H = headed ws 0 F R e in
+        let H = front-headed ws 0 F r e in
         let S = stands ws 2 (sym H.next ∙ g) H.behind in
         let behind = S.words ∙ ap (λ (k : ℕ). b ∷ drop k ws) (sym S.next) in
         record {
@@ -332,53 +324,55 @@ module _ {ws : List ℕ} {run a b at : ℕ} (F : Fronted ws run a b at) where
   unfolding read_table
   image-as = F.reads
 
-  pub number-other : (a / act_unit ≡ number_kind * 16 → ⊥) → answer.Malformed ≡ image_answer (read_image ws)
-  unfolding is_number_word image_answer
-  number-other k = let e : read_image ws ≡ None = image-as ∙ rw (ne_eqb (a / act_unit) (number_kind * 16) k) in rw e
+  pub words-other : is_number_word a && is_table_word b ≡ false → None ≡ image_answer (read_image ws)
+  unfolding image_answer
+  words-other k = let e : read_image ws ≡ None = image-as ∙ rw k in rw e
 
-  pub table-other : (b / 131072 ≡ table_kind * 2048 → ⊥) → answer.Malformed ≡ image_answer (read_image ws)
-  unfolding is_table_word image_answer
-  table-other k = let e : read_image ws ≡ None = image-as ∙ rw (ne_eqb (b / 131072) (table_kind * 2048) k, and-off (is_number_word a)) in rw e
-
-  module _ (n : a / act_unit ≡ number_kind * 16) (t : b / 131072 ≡ table_kind * 2048) where
+  module _ (k : is_number_word a && is_table_word b ≡ true) where
     image-is : read_image ws ≡ with_entries run (number_bits a) (switches_bits b) (marks_bits b) (read_entries (count_bits b) (drop at ws))
-    unfolding is_number_word is_table_word
-    image-is = image-as ∙ rw (eq-eqb (a / act_unit) (number_kind * 16) n, eq-eqb (b / 131072) (table_kind * 2048) t)
+    image-is = image-as ∙ rw k
 
-    pub image-many : max_entries < count_bits b → answer.Malformed ≡ image_answer (read_image ws)
+    pub image-many : max_entries < count_bits b → None ≡ image_answer (read_image ws)
     unfolding image_answer
     image-many h = sym (ap image_answer (image-is ∙ too_many run (number_bits a) (switches_bits b) (marks_bits b) (count_bits b) (drop at ws) h))
 
-    module _ (few : count_bits b ≤ max_entries) {r : Bool} (e : r ≡ are_entries (marks_bits b) (read_entries (count_bits b) (drop at ws))) where
-      told-by : image_answer (read_image ws) ≡ cond r (answer.Image run (number_bits a) (switches_bits b) (marks_bits b) (count_bits b)) answer.Malformed
-      told-by =
-          ap image_answer image-is
-          ∙ answered run (number_bits a) (switches_bits b) (marks_bits b) (count_bits b) (drop at ws) (omega arith) few
-          ∙ ap (λ (x : Bool). cond x (answer.Image run (number_bits a) (switches_bits b) (marks_bits b) (count_bits b)) answer.Malformed) (sym e)
+    module _ (few : count_bits b ≤ max_entries) where
+      told-by : image_answer (read_image ws)
+          ≡ cond (are_entries (marks_bits b) (read_entries (count_bits b) (drop at ws)))
+          (image_told run (number_bits a) (switches_bits b) (marks_bits b) (count_bits b)) None
+      told-by = ap image_answer image-is ∙ answered run (number_bits a) (switches_bits b) (marks_bits b) (count_bits b) (drop at ws) (omega arith) few
 
-      pub image-refused : r ≡ false → answer.Malformed ≡ image_answer (read_image ws)
+      pub image-refused : are_entries (marks_bits b) (read_entries (count_bits b) (drop at ws)) ≡ false → None ≡ image_answer (read_image ws)
       image-refused f = sym (told-by ∙ rw f)
 
-      pub image-taken : r ≡ true → answer.Image run (number_bits a) (switches_bits b) (marks_bits b) (count_bits b) ≡ image_answer (read_image ws)
+      pub image-taken : are_entries (marks_bits b) (read_entries (count_bits b) (drop at ws)) ≡ true
+          → image_told run (number_bits a) (switches_bits b) (marks_bits b) (count_bits b) ≡ image_answer (read_image ws)
       image-taken f = sym (told-by ∙ rw f)
 
 -- what the answer tells of the image that was read
-pub no-image-told : (o : Option Image) → answer.Malformed ≡ image_answer o → o ≡ None
+pub no-image-told : (o : Option Image) → None ≡ image_answer o → o ≡ None
 unfolding image_answer
 no-image-told None e = refl
-no-image-told (Some i) e = let z : ◌≡◌ {A = ℕ} 0 1 = cc in absurd (omega arith)
+no-image-told (Some i) e = cc
 
-pub record ImageTold (o : Option Image) (run number switches marks count : ℕ) : Type 0 where
-  pub read : IsRead o switches marks count
-  pub same-run : run ≡ read.value.run
-  pub same_number : number ≡ read.value.number
+pub record ImageTold (o : Option Image) (t : ImageRead) : Type 0 where
+  pub read : IsRead o t
+  pub same-run : t.run ≡ read.value.run
+  pub same_number : t.number ≡ read.value.number
 
-pub image-told : (o : Option Image) {run number switches marks count : ℕ} → answer.Image run number switches marks count ≡ image_answer o
-    → ImageTold o run number switches marks count
+pub image-told : (o : Option Image) {t : ImageRead} → Some t ≡ image_answer o → ImageTold o t
 unfolding image_answer
-image-told None e = let z : ◌≡◌ {A = ℕ} 0 1 = cc in absurd (omega arith)
-image-told (Some i) e = record {
-  read = record { value = i; is = refl; same-switches = cc; same-marks = cc; same_count = cc };
-  same-run = cc;
-  same_number = cc;
-}
+image-told None e = cc
+image-told (Some i) e =
+    let same = Some-injective _ _ e in
+    record {
+      read = record {
+        value = i;
+        is = refl;
+        same-switches = ap (λ (x : ImageRead). x.switches) same;
+        same-marks = ap (λ (x : ImageRead). x.marks) same;
+        same_count = ap (λ (x : ImageRead). x.count) same;
+      };
+      same-run = ap (λ (x : ImageRead). x.run) same;
+      same_number = ap (λ (x : ImageRead). x.number) same;
+    }

@@ -4,6 +4,7 @@ use Rattle.std.specs.Prelude.{Option, None, Some}
 use Prim.Native.Nat.{ℕ, ◌+◌, ◌-◌, ◌≤◌, ◌<◌}
 use mathlib.Core.Path.{◌≡◌, refl, sym, ap, ◌∙◌}
 use mathlib.Core.List.{List, [], ◌∷◌, ◌++◌, append-nil}
+use native.Mathlib.Nat.{sub-zero}
 use native.Mathlib.Omega.{arith}
 use lib.ListN.{length, take, drop, length-append}
 use lib.Seq.{take_at}
@@ -44,9 +45,9 @@ split e (Some r) q =
     }
 
 -- whatever writing the entries that are left comes to, writing all of them comes to that
-pub record Loading (ws : List ℕ) (es : List Entry) (m m' : List ℕ) (from at left : ℕ) : Type 0 where
+pub record Loading (ws : List ℕ) (es : List Entry) (m m' : List ℕ) (from at count done : ℕ) : Type 0 where
   pub rest : List Entry
-  pub reads : read_entries left (drop from ws) ≡ Some (record { value = rest; rest = [] })
+  pub reads : read_entries (count - done) (drop from ws) ≡ Some (record { value = rest; rest = [] })
   pub goes : {m'' : List ℕ} {end : ℕ} → Appends (encode_all rest) m' at m'' end → Appends (encode_all es) m table_head m'' end
   pub room : at + length (encode_all rest) ≤ length m'
   pub same : length m' ≡ length m
@@ -56,15 +57,15 @@ abbrev pub entries_of : {image : Option Image} {told : ImageRead} → IsRead ima
 entries_of R = R.value.table.entries
 
 pub loading-start : {ws : List ℕ} {told : ImageRead} (R : IsRead (read_image ws) told) (m : List ℕ) → table_bytes ≤ length m
-    → Loading ws (entries_of R) m m image_head table_head told.count
+    → Loading ws (entries_of R) m m image_head table_head told.count 0
 unfolding image_words
-loading-start {ws} R m long =
+loading-start {ws} {told} R m long =
     let es = entries_of R in
     let W = image-writable ws R.is in
     let words : drop image_head ws ≡ all_entry_words es ++ [] = ap (drop image_head) (sym (image-written ws R.is)) ∙ sym (append-nil (all_entry_words es)) in
     record {
       rest = es;
-      reads = (λ i. read_entries (R.same_count i) (words i)) ∙ entries-read [] (valid-parts _ W.within).each W.bytes;
+      reads = (λ i. read_entries ((sub-zero told.count ∙ R.same_count) i) (words i)) ∙ entries-read [] (valid-parts _ W.within).each W.bytes;
       goes = λ A. A;
       room = omega (arith, encode-fits R.value.table W.within, length-encode R.value.table, length-encode_all es);
       same = refl;
@@ -85,13 +86,13 @@ path-stands {t = t} E s e =
       is = rw is (take_at _ _ t.size (sym E.size));
     }
 
-module _ {ws : List ℕ} {es : List Entry} {m m' : List ℕ} {from at left : ℕ} (L : Loading ws es m m' from at left) where
-  pub loading-never : 0 < left → None ≡ entry_answer from (read_entry (drop from ws)) → ⊥
-  loading-never h e = never (sym (entries-stop left (drop from ws) h (told-nothing from _ e)) ∙ L.reads)
+module _ {ws : List ℕ} {es : List Entry} {m m' : List ℕ} {from at count done : ℕ} (L : Loading ws es m m' from at count done) where
+  pub loading-never : done < count → None ≡ entry_answer from (read_entry (drop from ws)) → ⊥
+  loading-never h e = never (sym (entries-stop count done (drop from ws) h (told-nothing from _ e)) ∙ L.reads)
 
-  module _ {t : EntryRead} (h : 0 < left) (E : Told ws from t) where
-    here : Split E.entry (read_entries (left - 1) (drop t.end ws)) L.rest
-    here = split E.entry _ (sym (entries-go left (drop from ws) h E.read) ∙ L.reads)
+  module _ {t : EntryRead} (h : done < count) (E : Told ws from t) where
+    here : Split E.entry (read_entries (count - (done + 1)) (drop t.end ws)) L.rest
+    here = split E.entry _ (sym (entries-go count done (drop from ws) h E.read) ∙ L.reads)
 
     sizes : length (encode_all L.rest) ≡ length (encode_entry E.entry) + length (encode_all here.others)
     unfolding encode_all
@@ -101,7 +102,7 @@ module _ {ws : List ℕ} {es : List Entry} {m m' : List ℕ} {from at left : ℕ
     loading-fits = omega (arith, L.room, sizes, length-encode_entry E.entry)
 
     pub loading-next : {p m'' : List ℕ} {at' : ℕ} → p ≡ E.entry.path → Appends (encode_entry (record { kind = t.kind; path = p })) m' at m'' at'
-        → length m'' ≡ length m' → Loading ws es m m'' t.end at' (left - 1)
+        → length m'' ≡ length m' → Loading ws es m m'' t.end at' count (done + 1)
     unfolding encode_all
     loading-next path A' same =
         let A = appends-as (λ i. encode_entry (record { kind = E.same_kind i; path = path i })) A' in
@@ -113,11 +114,11 @@ module _ {ws : List ℕ} {es : List Entry} {m m' : List ℕ} {from at left : ℕ
           same = same ∙ L.same;
         }
 
-  pub loading-over : left ≤ 0 → Appends (encode_all es) m table_head m' at
+  pub loading-over : count ≤ done → Appends (encode_all es) m table_head m' at
   unfolding encode_all
   loading-over h =
       let none_left : L.rest ≡ [] =
-      ap (λ (x : Read (List Entry)). x.value) (Some-injective _ _ (sym L.reads ∙ entries_none left (drop from ws) h))
+      ap (λ (x : Read (List Entry)). x.value) (Some-injective _ _ (sym L.reads ∙ entries_none count done (drop from ws) h))
       in
       L.goes (appends-as (ap encode_all (sym none_left)) (appends-none m' at))
 

@@ -5,24 +5,26 @@ use Prim.Native.Nat.{ℕ, zero, suc, ◌+◌, ◌-◌, ◌*◌, ◌/◌, ◌≤�
 use mathlib.Core.Path.{◌≡◌, refl, sym, ap, ◌∙◌}
 use mathlib.Core.List.{List, [], ◌∷◌}
 use mathlib.Core.Bool.{Bool, true, false, ◌&&◌, cond}
-use native.Mathlib.Nat.{add-zero, zero-add, add_assoc, not-suc-le-zero}
+use native.Mathlib.Nat.{add-zero, zero-add, sub-zero, add_assoc}
 use native.Mathlib.Omega.{arith}
 use lib.ListN.{length, drop, length-drop, length-append, drop_of_length-le}
 use lib.Seq.{drop-drop, drop_at}
 use lib.Dec.{eqb, leb}
 use borrow.Author.Tests.{eq-eqb, ne_eqb, le-leb, lt-leb}
+use Rattle.std.proofs.Common.{inl, inr}
+use Rattle.std.proofs.lemmas.Bool.{cases_lt}
 use Rattle.paths.specs.Resolving.{max_path}
 use Rattle.table.specs.declared.Kind.{Kind}
 use Rattle.table.specs.Entries.{Entry}
 use Rattle.table.specs.Tables.{max_entries, max_path_bytes, max_switches, path_bytes, is_entry, every, marks_of, marked, is_table}
 use Rattle.table.specs.Memory.{kind_from}
-use Rattle.table.proofs.Within.{pred-suc}
 use Rattle.table.proofs.ScanningLaws.{marks_after, marks-after}
 use Rattle.table.proofs.BitLaws.{marked-small}
 use Rattle.records.specs.declared.PathRead.{PathRead}
+use Rattle.records.specs.declared.words.WordRead.{WordRead}
 use Rattle.records.specs.declared.words.Front.{Front}
 use Rattle.records.specs.Records.{act_unit, number_bits, path_words, Read, bytes_from, if_resolved}
-use Rattle.records.specs.Words.{first_word, front_at}
+use Rattle.records.specs.Words.{first_word, read_at, front_at}
 use Rattle.records.specs.Steps.{run_of, path_answer, path_into, ReadsPath}
 use Rattle.records.proofs.WordLaws.{from_place, no_word, Stands, stands, of-run, run_alone, front-headed}
 use Rattle.records.proofs.RecordLaws.{path-short}
@@ -66,9 +68,9 @@ reads-no-entry : {at : ℕ} {o : Option (Read Entry)} {space : List ℕ} → o �
 unfolding entry_answer entry_into
 reads-no-entry e = record { answer = rw e; bytes = rw e }
 
-pub entry-at-end : (ws : List ℕ) (at : ℕ) {space : List ℕ} → first_word (drop at ws) ≡ None → ReadsEntry at (read_entry (drop at ws)) space None space
+pub entry-at-end : (ws : List ℕ) (at : ℕ) {r : WordRead} {space : List ℕ} → r ≡ read_at ws at → r.word ≡ None → ReadsEntry at (read_entry (drop at ws)) space None space
 unfolding read_entry
-entry-at-end ws at e = reads-no-entry (ap read_entry (no_word (drop at ws) e))
+entry-at-end ws at e f = reads-no-entry (ap read_entry (no_word (drop at ws) (sym (ap (λ (x : WordRead). x.word) e) ∙ f)))
 
 -- an entry of a kind, by what reading its path answered
 abbrev pub entry_by : Kind → Option PathRead → Option EntryRead
@@ -141,23 +143,24 @@ told-nothing at (Some r) e = cc
 
 -- ---- entries one after another
 
-next-entries : (n : ℕ) (ws : List ℕ) → 0 < n → read_entries n ws ≡ then_entries (read_entry ws) (λ rest. read_entries (n - 1) rest)
-unfolding read_entries
-next-entries n ws h = ap (λ (k : ℕ). read_entries k ws) (pred-suc n h)
+-- `done` of `count` entries were read, and the next one is
+module _ (count done : ℕ) (ws : List ℕ) where
+  next-entries : done < count → read_entries (count - done) ws ≡ then_entries (read_entry ws) (λ rest. read_entries (count - (done + 1)) rest)
+  unfolding read_entries
+  next-entries h = let more : count - done ≡ suc (count - (done + 1)) = omega arith in rw more
 
-pub entries-stop : (n : ℕ) (ws : List ℕ) → 0 < n → read_entry ws ≡ None → read_entries n ws ≡ None
-unfolding then_entries
-entries-stop n ws h e = next-entries n ws h ∙ rw e
+  pub entries-stop : done < count → read_entry ws ≡ None → read_entries (count - done) ws ≡ None
+  unfolding then_entries
+  entries-stop h e = next-entries h ∙ rw e
 
-pub entries-go : (n : ℕ) (ws : List ℕ) {e : Entry} {rest : List ℕ} → 0 < n → read_entry ws ≡ Some (record { value = e; rest = rest })
-    → read_entries n ws ≡ with_entry e (read_entries (n - 1) rest)
-unfolding then_entries
-entries-go n ws h e = next-entries n ws h ∙ rw e
+  pub entries-go : {e : Entry} {rest : List ℕ} → done < count → read_entry ws ≡ Some (record { value = e; rest = rest })
+      → read_entries (count - done) ws ≡ with_entry e (read_entries (count - (done + 1)) rest)
+  unfolding then_entries
+  entries-go h e = next-entries h ∙ rw e
 
-pub entries_none : (n : ℕ) (ws : List ℕ) → n ≤ 0 → read_entries n ws ≡ Some (record { value = []; rest = ws })
-unfolding read_entries
-entries_none zero ws h = refl
-entries_none (suc n) ws h = absurd (not-suc-le-zero h)
+  pub entries_none : count ≤ done → read_entries (count - done) ws ≡ Some (record { value = []; rest = ws })
+  unfolding read_entries
+  entries_none h = let none_left : count - done ≡ 0 = omega arith in rw none_left
 
 -- ---- the test of all entries, with the path bytes and the marks met so far
 
@@ -176,27 +179,32 @@ unfolding are_from with_entry path_bytes marks_after
 from-entry total seen marks e None = refl
 from-entry total seen marks e (Some r) = rw (add_assoc total (length e.path) (path_bytes r.value))
 
--- `left` of `count` entries are to be tested
-pub record Testing (ws : List ℕ) (from count marks at left total seen : ℕ) : Type 0 where
-  pub goes : are_entries marks (read_entries count (drop from ws)) ≡ are_from total seen marks (read_entries left (drop at ws))
+-- `done` of `count` entries were tested
+pub record Testing (ws : List ℕ) (from count marks at done total seen : ℕ) : Type 0 where
+  pub goes : are_entries marks (read_entries count (drop from ws)) ≡ are_from total seen marks (read_entries (count - done) (drop at ws))
   pub inside : at ≤ length ws
   pub small : seen ≤ 7
-  pub few : total + max_path * left ≤ max_path * max_entries
+  pub few : total ≤ max_path * done
 
-pub testing-start : (ws : List ℕ) (from count marks : ℕ) → from ≤ length ws → count ≤ max_entries → Testing ws from count marks from count 0 0
-testing-start ws from count marks inside few = record { goes = from_start marks _; inside = inside; small = omega arith; few = omega arith }
+pub testing-start : (ws : List ℕ) (from count marks : ℕ) → from ≤ length ws → Testing ws from count marks from 0 0 0
+testing-start ws from count marks inside = record {
+  goes = from_start marks _ ∙ ap (λ (n : ℕ). are_from 0 0 marks (read_entries n (drop from ws))) (sym (sub-zero count));
+  inside = inside;
+  small = omega arith;
+  few = omega arith;
+}
 
-module _ {ws : List ℕ} {from count marks at left total seen : ℕ} (T : Testing ws from count marks at left total seen) where
-  pub testing-stops : 0 < left → None ≡ entry_answer at (read_entry (drop at ws)) → false ≡ are_entries marks (read_entries count (drop from ws))
+module _ {ws : List ℕ} {from count marks at done total seen : ℕ} (T : Testing ws from count marks at done total seen) where
+  pub testing-stops : done < count → None ≡ entry_answer at (read_entry (drop at ws)) → false ≡ are_entries marks (read_entries count (drop from ws))
   unfolding are_from
-  testing-stops h e = sym (T.goes ∙ ap (are_from total seen marks) (entries-stop left (drop at ws) h (told-nothing at _ e)))
+  testing-stops h e = sym (T.goes ∙ ap (are_from total seen marks) (entries-stop count done (drop at ws) h (told-nothing at _ e)))
 
-  pub testing-next : {t : EntryRead} {seen' : ℕ} → 0 < left → Told ws at t → seen' ≡ marked t.kind seen
-      → Testing ws from count marks t.end (left - 1) (total + t.size) seen'
+  pub testing-next : {t : EntryRead} {seen' : ℕ} → done < count → Told ws at t → seen' ≡ marked t.kind seen
+      → Testing ws from count marks t.end (done + 1) (total + t.size) seen'
   testing-next h E m = record {
     goes =
         T.goes
-        ∙ ap (are_from total seen marks) (entries-go left (drop at ws) h E.read)
+        ∙ ap (are_from total seen marks) (entries-go count done (drop at ws) h E.read)
         ∙ from-entry total seen marks E.entry _
         ∙ rw (E.size, m, E.same_kind);
     inside = E.inside;
@@ -204,21 +212,18 @@ module _ {ws : List ℕ} {from count marks at left total seen : ℕ} (T : Testin
     few = omega (arith, T.few, E.short);
   }
 
-  module _ (h : left ≤ 0) where
-    over : are_entries marks (read_entries count (drop from ws)) ≡ is_end (drop at ws) && leb total max_path_bytes && eqb marks seen
-    unfolding are_from path_bytes marks_after
-    over = T.goes ∙ ap (are_from total seen marks) (entries_none left (drop at ws) h) ∙ rw (add-zero total)
+  at-end : is_end (drop at ws) ≡ eqb at (length ws)
+  unfolding is_end
+  at-end = elim (cases_lt at (length ws)) [
+    | inl more ↦ rw (from_place ws at more, ne_eqb at (length ws) (λ e. omega arith))
+    | inr over ↦ let end : at ≡ length ws = omega (arith, T.inside) in rw (drop_of_length-le ws {i = at} over, eq-eqb at (length ws) end)
+  ]
 
-    pub testing-longer : (at ≡ length ws → ⊥) → false ≡ are_entries marks (read_entries count (drop from ws))
-    unfolding is_end
-    testing-longer e = let more : at < length ws = omega (arith, T.inside, e) in sym (over ∙ rw (from_place ws at more))
-
-    pub testing-heavier : max_path_bytes < total → false ≡ are_entries marks (read_entries count (drop from ws))
-    testing-heavier e = sym (over ∙ rw (lt-leb total max_path_bytes e, and-off (is_end (drop at ws))))
-
-    pub testing-ends : at ≡ length ws → total ≤ max_path_bytes → eqb marks seen ≡ are_entries marks (read_entries count (drop from ws))
-    unfolding is_end
-    testing-ends e f = let none_left : drop at ws ≡ [] = drop_of_length-le ws {i = at} (omega arith) in sym (over ∙ rw (le-leb total max_path_bytes f, none_left))
+  pub testing-over : count ≤ done → are_entries marks (read_entries count (drop from ws)) ≡ eqb at (length ws) && leb total max_path_bytes && eqb marks seen
+  unfolding are_from path_bytes marks_after
+  testing-over h =
+      T.goes ∙ ap (are_from total seen marks) (entries_none count done (drop at ws) h)
+      ∙ rw (add-zero total) (ap (λ (b : Bool). b && leb total max_path_bytes && eqb marks seen) at-end)
 
 -- ---- an image
 

@@ -55,6 +55,9 @@ stands ws at {w} e b =
       next = b ∙ ap (λ (l : List ℕ). behind_first l at) is;
     }
 
+pub read-stands : (ws : List ℕ) (at : ℕ) {r : WordRead} {w : ℕ} → r ≡ read_at ws at → r.word ≡ Some w → Stands ws at w r.at
+read-stands ws at e f = stands ws at (sym (ap (λ (x : WordRead). x.word) e) ∙ f) (ap (λ (x : WordRead). x.at) e)
+
 -- a word that says a run
 pub record OfRun (word : Option ℕ) (run : ℕ) : Type 0 where
   pub value : ℕ

@@ -9,7 +9,7 @@ use native.Mathlib.Nat.{zero-add}
 use lib.ListN.{length, get_or, take, drop, length-append}
 use lib.Seq.{length-take-le, take_at}
 use lib.Dec.{eqb, ltb}
-use borrow.Author.Tests.{lt-ltb, le-ltb, ltb-false}
+use borrow.Author.Tests.{ne_eqb, eqb-true, eqb-false, lt-ltb, le-ltb, ltb-false}
 use Rattle.paths.specs.Components.{slash, same, pieces, slashed, spell}
 use Rattle.refusals.specs.declared.Refusal.{Refusal}
 use Rattle.refusals.specs.declared.Refusal.TheVariants.{EmptyPath, PathTooLong, BadDirectory, ResolvedTooLong}
@@ -29,80 +29,58 @@ use Rattle.paths.specs.Resolving.{
   resolved_into,
   Resolves,
 }
-use Rattle.paths.specs.Copying.{overwrite}
+use Rattle.paths.specs.Copying.{overwrite, Appends}
 use Rattle.paths.specs.Entering.{enter_all_bytes, Begins, rooted}
 use Rattle.paths.specs.Answering.{too_long, Answers}
-use Rattle.paths.proofs.Entering.{other_length, entered-one, entered-both}
-
--- ---- an absolute path
-
-pub absolute-empty : (p : List ℕ) → length p ≡ 0 → false ≡ is_absolute p
-unfolding is_absolute
-absolute-empty [] h = refl
-absolute-empty (b ∷ p) h = absurd (omega arith)
-
-pub absolute-first : (p : List ℕ) → (length p ≡ 0 → ⊥) → eqb (get_or p 0 0) slash ≡ is_absolute p
-unfolding is_absolute
-absolute-first [] h = absurd (h refl)
-absolute-first (b ∷ p) h = refl
+use Rattle.paths.proofs.Entering.{entered-one, entered-both}
 
 -- ---- a bad working directory
 
-same-empty : (c : List ℕ) → length c ≡ 0 → same c [] ≡ true
+pub same_empty : (c : List ℕ) → same c [] ≡ eqb (length c) 0
 unfolding same
-same-empty [] h = refl
-same-empty (a ∷ c) h = absurd (omega arith)
+same_empty [] = refl
+same_empty (a ∷ c) = sym (ne_eqb (length (a ∷ c)) 0 (λ h. omega arith))
 
-module _ (p cwd : List ℕ) where
-  pub directory-unused : is_absolute p ≡ true → false ≡ is_bad_directory p cwd
-  unfolding is_bad_directory
-  directory-unused a = rw a
-
-  module _ (a : is_absolute p ≡ false) where
-    pub directory-empty : length cwd ≡ 0 → true ≡ is_bad_directory p cwd
-    unfolding is_bad_directory
-    directory-empty h = rw (a, same-empty cwd h)
-
-    pub directory-long : (length cwd ≡ 0 → ⊥) → max_path < length cwd → true ≡ is_bad_directory p cwd
-    unfolding is_bad_directory
-    directory-long k h = rw (a, other_length cwd [] k, lt-ltb max_path (length cwd) h)
-
-    pub directory-relative : (length cwd ≡ 0 → ⊥) → length cwd ≤ max_path → not (is_absolute cwd) ≡ is_bad_directory p cwd
-    unfolding is_bad_directory
-    directory-relative k h = rw (a, other_length cwd [] k, le-ltb max_path (length cwd) h)
-
-    pub directory-short : is_bad_directory p cwd ≡ false → length cwd ≤ max_path
-    unfolding is_bad_directory
-    directory-short e = ltb-false max_path (length cwd) (none_of (same cwd []) (ltb max_path (length cwd)) (not (is_absolute cwd)) (rw a at e))
-      where
-        none_of : (x y z : Bool) → x || y || z ≡ false → y ≡ false
-        none_of true y z e = absurd (false≢true (sym e))
-        none_of false true z e = absurd (false≢true (sym e))
-        none_of false false z e = refl
+pub directory-short : (p cwd : List ℕ) → is_absolute p ≡ false → is_bad_directory p cwd ≡ false → length cwd ≤ max_path
+unfolding is_bad_directory
+directory-short p cwd a e = ltb-false max_path (length cwd) (none_of (same cwd []) (ltb max_path (length cwd)) (not (is_absolute cwd)) (rw a at e))
+  where
+    none_of : (x y z : Bool) → x || y || z ≡ false → y ≡ false
+    none_of true y z e = absurd (false≢true (sym e))
+    none_of false true z e = absurd (false≢true (sym e))
+    none_of false false z e = refl
 
 -- ---- the components of a joined path in bytes
 
-module _ (p cwd : List ℕ) (short : length p ≤ max_path) where
-  pub joined-absolute : {w : List ℕ} {r : ℕ} → is_absolute p ≡ true → Begins w r (0 + length p + 1) (enter_all_bytes [] (pieces p))
-      → Begins w r 2050 (slashed (enter_all [] (pieces (join cwd p))))
-  unfolding join
-  joined-absolute a b = record { few = omega (arith, b.few); front = rw a (b.front ∙ entered-one p) }
+-- n bytes of a work area stand for what is entered before the path, so that the path's components complete the joined ones
+pub record Before (p cwd w : List ℕ) (n : ℕ) : Type 0 where
+  pub few : n ≤ 1025
+  pub joins : enter_all_bytes (take n w) (pieces p) ≡ slashed (enter_all [] (pieces (join cwd p)))
 
-  pub joined-relative : {v w : List ℕ} {n r : ℕ} → is_absolute p ≡ false → length cwd ≤ max_path
-      → Begins v n (0 + length cwd + 1) (enter_all_bytes [] (pieces cwd)) → Begins w r (n + length p + 1) (enter_all_bytes (take n v) (pieces p))
-      → Begins w r 2050 (slashed (enter_all [] (pieces (join cwd p))))
+module _ (p cwd : List ℕ) {w : List ℕ} {n : ℕ} where
+  pub before-absolute : is_absolute p ≡ true → n ≡ 0 → Before p cwd w n
   unfolding join
-  joined-relative a k d b = record {
-    few = omega (arith, d.few, b.few);
-    front = rw a (b.front ∙ ap (λ (l : List ℕ). enter_all_bytes l (pieces p)) d.front ∙ entered-both cwd p);
-  }
+  before-absolute a z = record { few = omega arith; joins = rw (z, a) (entered-one p) }
+
+  pub before-relative : is_absolute p ≡ false → is_bad_directory p cwd ≡ false → Begins w n (0 + length cwd + 1) (enter_all_bytes [] (pieces cwd)) → Before p cwd w n
+  unfolding join
+  before-relative a e b = record { few = omega (arith, b.few, directory-short p cwd a e); joins = rw (b.front, a) (entered-both cwd p) }
+
+  pub joined : {v : List ℕ} {r : ℕ} → Before p cwd w n → length p ≤ max_path → Begins v r (n + length p + 1) (enter_all_bytes (take n w) (pieces p))
+      → Begins v r 2050 (slashed (enter_all [] (pieces (join cwd p))))
+  joined b h d = record { few = omega (arith, b.few, d.few); front = d.front ∙ b.joins }
 
 -- ---- the resolved path, handed over
 
-rooted-some : (w : List ℕ) → 0 < length w → rooted w ≡ w
+pub rooted_none : (w : List ℕ) → true ≡ eqb (length w) 0 → rooted w ≡ slash ∷ []
 unfolding rooted
-rooted-some [] h = absurd (omega arith)
-rooted-some (b ∷ w) h = refl
+rooted_none [] e = refl
+rooted_none (b ∷ w) e = let h = eqb-true (length (b ∷ w)) 0 (sym e) in absurd (omega arith)
+
+pub rooted_some : (w : List ℕ) → false ≡ eqb (length w) 0 → rooted w ≡ w
+unfolding rooted
+rooted_some [] e = absurd (eqb-false 0 0 (sym e) refl)
+rooted_some (b ∷ w) e = refl
 
 rooted-slashed : (cs : List (List ℕ)) → rooted (slashed cs) ≡ spell cs
 unfolding rooted slashed spell
@@ -114,74 +92,50 @@ unfolding resolve normalize
 spelled p cwd = rooted-slashed (enter_all [] (pieces (join cwd p)))
 
 -- a path that is too long, and one that is not and is written into the space
-module _ (path space : List ℕ) where
-  answers-long : max_path < length path → Answers path (too_long path) space (Err ResolvedTooLong) space
+module _ {path : List ℕ} (q space : List ℕ) (e : path ≡ q) where
+  pub handed-long : max_path < length path → Answers q (too_long q) space (Err ResolvedTooLong) space
   unfolding too_long first_cause unless space_after
-  answers-long h = record { answer = rw (lt-ltb max_path (length path) h); bytes = rw (lt-ltb max_path (length path) h) }
+  handed-long h = rw (← e) (record { answer = rw (lt-ltb max_path (length path) h); bytes = rw (lt-ltb max_path (length path) h) })
 
-  answers-path : {after : List ℕ} → length path ≤ max_path → after ≡ overwrite space 0 path → Answers path (too_long path) space (Ok (length path)) after
+  pub handed-path : {after : List ℕ} {r : ℕ} → length path ≤ max_path → Appends path space 0 after r → Answers q (too_long q) space (Ok r) after
   unfolding too_long first_cause unless space_after overwrite
-  answers-path h e = record {
-    answer = rw (le-ltb max_path (length path) h);
-    bytes = e ∙ rw (le-ltb max_path (length path) h, zero-add (length path));
-  }
-
-pub handed-root : (w space : List ℕ) (len : ℕ) {after : List ℕ} → len ≡ 0 → after ≡ overwrite space 0 (slash ∷ [])
-    → Answers (rooted (take len w)) (too_long (rooted (take len w))) space (Ok 1) after
-unfolding rooted
-handed-root w space len z e = rw z (answers-path (slash ∷ []) space (omega arith) e)
-
-module _ (w space : List ℕ) (len : ℕ) (h : len ≤ length w) where
-  whole : 0 < len → rooted (take len w) ≡ take len w
-  whole k = rooted-some (take len w) (omega (arith, length-take-le len w h))
-
-  pub handed-long : max_path < len → Answers (rooted (take len w)) (too_long (rooted (take len w))) space (Err ResolvedTooLong) space
-  handed-long k = rw (whole (omega arith)) (answers-long (take len w) space (omega (arith, length-take-le len w h)))
-
-  pub handed-path : {after : List ℕ} → (len ≡ 0 → ⊥) → len ≤ max_path → after ≡ overwrite space 0 (take len w)
-      → Answers (rooted (take len w)) (too_long (rooted (take len w))) space (Ok len) after
-  handed-path {after = after} z k e =
-      rw (whole (omega arith))
-      (subst (λ (n : ℕ). Answers (take len w) (too_long (take len w)) space (Ok n) after)
-      (length-take-le len w h) (answers-path (take len w) space (omega (arith, length-take-le len w h)) e))
+  handed-path h a = rw (← e) (record {
+    answer = rw (le-ltb max_path (length path) h, a.end, zero-add (length path));
+    bytes = a.content ∙ rw (le-ltb max_path (length path) h, zero-add (length path));
+  })
 
 -- ---- the first cause
 
 module _ (p cwd space : List ℕ) where
-  pub resolves-empty : length p ≡ 0 → Resolves p cwd space (Err EmptyPath) space
+  pub resolves-empty : true ≡ eqb (length p) 0 → Resolves p cwd space (Err EmptyPath) space
   unfolding resolution resolved_into path_conditions first_cause unless space_after
-  resolves-empty h = record { answer = rw (same-empty p h); bytes = rw (same-empty p h) }
+  resolves-empty e = let s = same_empty p ∙ sym e in record { answer = rw s; bytes = rw s }
 
-  module _ (Some : length p ≡ 0 → ⊥) where
+  module _ (some : false ≡ eqb (length p) 0) where
     pub resolves-long : max_path < length p → Resolves p cwd space (Err PathTooLong) space
     unfolding resolution resolved_into path_conditions first_cause unless space_after
-    resolves-long h = record {
-      answer = rw (other_length p [] Some, lt-ltb max_path (length p) h);
-      bytes = rw (other_length p [] Some, lt-ltb max_path (length p) h);
-    }
+    resolves-long h =
+        let s = same_empty p ∙ sym some in
+        record { answer = rw (s, lt-ltb max_path (length p) h); bytes = rw (s, lt-ltb max_path (length p) h) }
 
     module _ (short : length p ≤ max_path) where
-      pub resolves-bad : is_bad_directory p cwd ≡ true → Resolves p cwd space (Err BadDirectory) space
+      pub resolves-bad : true ≡ is_bad_directory p cwd → Resolves p cwd space (Err BadDirectory) space
       unfolding resolution resolved_into path_conditions first_cause unless space_after
-      resolves-bad e = record {
-        answer = rw (other_length p [] Some, le-ltb max_path (length p) short, e);
-        bytes = rw (other_length p [] Some, le-ltb max_path (length p) short, e);
-      }
+      resolves-bad e =
+          let s = same_empty p ∙ sym some in
+          record { answer = rw (s, le-ltb max_path (length p) short, ← e); bytes = rw (s, le-ltb max_path (length p) short, ← e) }
 
-      last-cause : is_bad_directory p cwd ≡ false → first_cause (path_conditions p cwd) ≡ too_long (resolve p cwd)
+      last-cause : false ≡ is_bad_directory p cwd → first_cause (path_conditions p cwd) ≡ too_long (resolve p cwd)
       unfolding path_conditions first_cause too_long
-      last-cause e = rw (other_length p [] Some, le-ltb max_path (length p) short, e)
+      last-cause e = rw (same_empty p ∙ sym some, le-ltb max_path (length p) short, ← e)
 
-      pub resolves-path : {w : List ℕ} {n : ℕ} {r : Result ℕ} {after : List ℕ} → is_bad_directory p cwd ≡ false
+      pub resolves-path : {w : List ℕ} {n : ℕ} {r : Result ℕ} {after : List ℕ} → false ≡ is_bad_directory p cwd
           → Begins w n 2050 (slashed (enter_all [] (pieces (join cwd p)))) → Answers (rooted (take n w)) (too_long (rooted (take n w))) space r after
           → Resolves p cwd space r after
       unfolding resolution resolved_into
       resolves-path {w = w} {n = n} e b a =
           let z : rooted (take n w) ≡ resolve p cwd = ap rooted b.front ∙ spelled p cwd in
-          record {
-            answer = a.answer ∙ rw (z, last-cause e);
-            bytes = a.bytes ∙ rw (z, last-cause e);
-          }
+          record { answer = a.answer ∙ rw (z, last-cause e); bytes = a.bytes ∙ rw (z, last-cause e) }
 
 -- ---- what an answer of resolving tells
 

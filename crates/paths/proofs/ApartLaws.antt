@@ -11,30 +11,11 @@ use Rattle.paths.specs.Components.{same, components, slash, slashed, spell}
 use Rattle.paths.specs.Resolving.{is_resolved}
 use Rattle.paths.specs.Relations.{is_prefix}
 use Rattle.paths.specs.CommonPart.{leads}
-use Rattle.paths.specs.Relating.{same_byte, same_eight, SameBytes, lesser_length, TellsApart}
+use Rattle.paths.specs.Relating.{same_byte, same_eight, SameBytes, TellsApart}
 use Rattle.paths.proofs.ComponentLaws.{and_left, and_right, and_both, same-eq}
 use Rattle.paths.proofs.ResolvingLaws.{spell-components}
 use Rattle.paths.proofs.CommonLaws.{prefix-leads}
 use Rattle.paths.proofs.RelationLaws.{prefix-length}
-
--- ---- the lesser length
-
-pub record Lesser (p q : List ℕ) : Type 0 where
-  pub left : lesser_length p q ≤ length p
-  pub right : lesser_length p q ≤ length q
-  pub first : length p ≤ length q → lesser_length p q ≡ length p
-  pub second : length q ≤ length p → lesser_length p q ≡ length q
-
-pub lesser : (p q : List ℕ) → Lesser p q
-lesser p q = go (dec_lt (length p) (length q))
-  where
-    go : Dec (length p < length q) → Lesser p q
-    go (yes l) =
-        let e : lesser_length p q ≡ length p = unfold lesser_length in rw (lt-ltb _ _ l) in
-        record { left = omega arith; right = omega arith; first = λ h. e; second = λ h. omega arith }
-    go (no l) =
-        let e : lesser_length p q ≡ length q = unfold lesser_length in rw (le-ltb (length p) (length q) (omega arith)) in
-        record { left = omega arith; right = omega arith; first = λ h. omega arith; second = λ h. e }
 
 -- ---- eights
 
@@ -128,10 +109,10 @@ prefix-front p q rp rq h =
 module _ (p q : List ℕ) (rp : is_resolved p ≡ true) (rq : is_resolved q ≡ true) {r : Bool} (T : TellsApart p q r) (told : r ≡ true) where
   pub apart-prefix : is_prefix p q ≡ false
   apart-prefix = (not-eq-not {b = false}).0 (λ h.
-      let n = (lesser p q).first (prefix-length p q rp rq h) in
+      let n = prefix-length p q rp rq h in
       T.apart told (same-fewer 0 _ (length p) _ (omega arith) (omega arith) (front_same (prefix-front p q rp rq h))))
 
   pub apart-extension : is_prefix q p ≡ false
   apart-extension = (not-eq-not {b = false}).0 (λ h.
-      let n = (lesser p q).second (prefix-length q p rq rp h) in
+      let n = prefix-length q p rq rp h in
       T.apart told (record { bytes = λ k i j. sym ((front_same (prefix-front q p rq rp h)).bytes k (omega arith) (omega arith)) }))

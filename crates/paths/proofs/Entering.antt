@@ -1,23 +1,36 @@
 -- Laws of resolving in bytes: what is written over a work area, the last slash, and components entered in turn.
+use Rattle.std.specs.Prelude.{Option, None, Some, MatchOption}
+use Rattle.std.specs.Option.{unwrap_or}
 use Prim.Native.Nat.{ℕ, suc, ◌+◌, ◌-◌, ◌≤◌, ◌<◌}
 use mathlib.Core.Path.{◌≡◌, refl, sym, ap, ◌∙◌}
 use mathlib.Core.List.{List, [], ◌∷◌, ◌++◌, drop_last, append_assoc, append-nil, nil≢cons}
 use mathlib.Core.Bool.{Bool, true, false, ◌&&◌, ◌||◌, not, cond, false≢true}
 use native.Mathlib.Omega.{arith}
 use native.Mathlib.Numerals.{add-one}
-use lib.ListN.{length, get_or, take, drop, set, length-set, length-drop}
-use lib.Seq.{take-suc, take-suc-set, length-take-le, append_snoc}
+use lib.ListN.{length, get_or, take, drop, set, length-set, length-append, length-drop}
+use Rattle.std.proofs.lemmas.List.{length-take, take-take}
+use denote.Ref.{Bor}
+use denote.Param.Members.{Mut}
+use Rattle.std.specs.declared.slice.Split.{Split}
+use Rattle.std.specs.Fn.{CalledAt}
+use Rattle.std.specs.Iterator.{Yields}
+use Rattle.std.specs.List.{slice_split}
+use Rattle.std.specs.Slice.Iter.{split_rest, split_done, split_callee, split_steps}
+use Rattle.std.proofs.lemmas.Iterator.{YieldsList}
+use Rattle.std.proofs.lemmas.Iterator.Consumers.{YieldsList-at, YieldsList-turn, YieldsList-end}
+use Rattle.std.proofs.lemmas.Iterator.Splits.{YieldsList-from_slice_split}
+use Rattle.std.proofs.lemmas.List.{drop_all}
+use lib.Seq.{take-suc-set, append_snoc, get_or-drop, split_at, drop-cons}
 use lib.Dec.{eqb}
 use borrow.Author.Tests.{ne_eqb}
 use Rattle.paths.specs.Components.{slash, dot, same, grown, parted, pieces, slashed}
 use Rattle.paths.specs.Resolving.{is_name, entered, enter_all}
-use Rattle.paths.specs.Scanning.{pieces_from, EndsAt}
 use Rattle.paths.specs.Copying.{overwrite}
 use Rattle.paths.specs.Entering.{has_slash, before_last, entered_bytes, enter_all_bytes, Begins}
 use Rattle.paths.proofs.CopyLaws.{take-over}
 use Rattle.paths.proofs.ComponentLaws.{Unslashed, none, more, Each, nil, cons, pieces-slash, pieces-unslashed, slashed-pieces}
 use Rattle.paths.proofs.ResolvingLaws.{each-entered}
-use Rattle.paths.proofs.Scanning.{and-false, pieces_from-start, pieces_from-out}
+use Rattle.paths.proofs.Scanning.{and-false, pieces-split, names}
 
 -- ---- a name written into the work area
 
@@ -33,16 +46,7 @@ name-added w w' n c h e = record {
       ∙ ap (λ (l : List ℕ). l ++ c) (take-stored w n slash (omega arith)) ∙ append_snoc (take n w) slash c;
 }
 
--- how long a component is
-length_part : (p : List ℕ) (at end : ℕ) → at ≤ end → end ≤ length p → length (take (end - at) (drop at p)) ≡ end - at
-length_part p at end h k = length-take-le (end - at) (drop at p) (omega (arith, length-drop at p))
-
 -- ---- the last slash
-
-has_slash-other : (w : List ℕ) (b : ℕ) → (b ≡ slash → ⊥) → has_slash (w ++ b ∷ []) ≡ has_slash w
-unfolding has_slash
-has_slash-other [] b h = rw (ne_eqb b slash h)
-has_slash-other (a ∷ w) b h = rw (has_slash-other w b h)
 
 -- a slash in the second part is one in the whole
 has_slash-right : (v w : List ℕ) → has_slash w ≡ true → has_slash (v ++ w) ≡ true
@@ -59,10 +63,9 @@ unfolding has_slash
 has_slash-unslashed none = refl
 has_slash-unslashed (more {b = b} h u) = rw (ne_eqb b slash h, has_slash-unslashed u)
 
-before_last-other : (w : List ℕ) (b : ℕ) → (b ≡ slash → ⊥) → before_last (w ++ b ∷ []) ≡ before_last w
-unfolding before_last has_slash
-before_last-other [] b h = refl
-before_last-other (a ∷ w) b h = rw (has_slash-other w b h, before_last-other w b h)
+has_slash_first : (w : List ℕ) → has_slash (slash ∷ w) ≡ true
+unfolding has_slash
+has_slash_first w = refl
 
 before_last-right : (v w : List ℕ) → has_slash w ≡ true → before_last (v ++ w) ≡ v ++ before_last w
 unfolding before_last
@@ -73,104 +76,121 @@ before_last-unslashed : {c : List ℕ} → Unslashed c → before_last (slash �
 unfolding before_last
 before_last-unslashed u = rw (has_slash-unslashed u)
 
--- one turn of the way back to the last slash
-module _ (w : List ℕ) (n : ℕ) (some : 0 < n) (h : n ≤ length w) where
-  last : take n w ≡ take (n - 1) w ++ get_or w (n - 1) 0 ∷ []
-  last =
-      let e : n ≡ suc (n - 1) = omega arith in
-      ap (λ (k : ℕ). take k w) e ∙ take-suc w (n - 1) 0 (omega arith)
-
-  pub back-other : (get_or w (n - 1) 0 ≡ slash → ⊥) → before_last (take n w) ≡ before_last (take (n - 1) w)
-  back-other k = ap before_last last ∙ before_last-other (take (n - 1) w) (get_or w (n - 1) 0) k
-
-  pub back-slash : get_or w (n - 1) 0 ≡ slash → take (n - 1) w ≡ before_last (take n w)
-  unfolding before_last has_slash
-  back-slash k = sym (ap before_last (last ∙ ap (λ (b : ℕ). take (n - 1) w ++ b ∷ []) k) ∙ before_last-right (take (n - 1) w) (slash ∷ []) refl ∙ append-nil (take (n - 1) w))
-
-pub back_none : (w : List ℕ) (n : ℕ) → n ≤ 0 → [] ≡ before_last (take n w)
+before_last_none : {w : List ℕ} → Unslashed w → before_last w ≡ []
 unfolding before_last
-back_none w n h =
-    let z : n ≡ 0 = omega arith in
-    ap (λ (k : ℕ). before_last (take k w)) (sym z)
+before_last_none none = refl
+before_last_none (more h u) = rw (has_slash-unslashed u)
 
--- ---- one component more, by whether it is a name
+unslashed_by : (w : List ℕ) → ((k : ℕ) → k < length w → get_or w k 0 ≡ slash → ⊥) → Unslashed w
+unslashed_by [] h = none
+unslashed_by (b ∷ w) h = more (h 0 (omega arith)) (unslashed_by w (λ k l. h (suc k) (omega arith)))
 
-by_name : (empty here up : Bool) (w v x : List ℕ) → not empty && not here && not up ≡ true → cond empty w (cond here w (cond up v x)) ≡ x
-by_name true here up w v x e = absurd (false≢true e)
-by_name false true up w v x e = absurd (false≢true e)
-by_name false false true w v x e = absurd (false≢true e)
-by_name false false false w v x e = refl
+-- the place of the last slash, if there is one
+abbrev pub LastSlash : List ℕ → Option ℕ → Type 0
+LastSlash w r =
+    MatchOption r ((k : ℕ) → k < length w → get_or w k 0 ≡ slash → ⊥)
+    (λ i. (i < length w) × (get_or w i 0 ≡ slash) × ((k : ℕ) → i + 1 ≤ k → k < length w → get_or w k 0 ≡ slash → ⊥))
 
-by-up : (empty here up : Bool) (w v x : List ℕ) → not empty && not here && not up ≡ false → empty ≡ false → here ≡ false → cond empty w (cond here w (cond up v x)) ≡ v
-by-up true here up w v x e p q = absurd (false≢true (sym p))
-by-up false true up w v x e p q = absurd (false≢true (sym q))
-by-up false false true w v x e p q = refl
-by-up false false false w v x e p q = absurd (false≢true (sym e))
+pub begins_last : (w : List ℕ) (r : Option ℕ) → LastSlash w r → Begins w (unwrap_or r 0) (length w) (before_last w)
+begins_last w None h = record { few = omega arith; front = sym (before_last_none (unslashed_by w h)) }
+begins_last w (Some i) h =
+    let behind : Unslashed (drop (suc i) w) =
+        unslashed_by _ (λ k l. rw get_or-drop (h.2 (suc i + k) (omega arith) (omega (arith, length-drop (suc i) w)))) in
+    let parts : w ≡ take i w ++ slash ∷ drop (suc i) w = rw h.1 at (split_at w i 0 h.0) in
+    record {
+      few = omega (arith, h.0);
+      front = sym (ap before_last parts ∙ before_last-right (take i w) (slash ∷ drop (suc i) w) (has_slash_first (drop (suc i) w))
+          ∙ ap (λ (l : List ℕ). take i w ++ l) (before_last-unslashed behind) ∙ append-nil (take i w));
+    }
 
-by-rest : (empty here up : Bool) (w v x : List ℕ) → not empty && not here && not up ≡ false → up ≡ false → cond empty w (cond here w (cond up v x)) ≡ w
-by-rest true here up w v x e p = refl
-by-rest false true up w v x e p = refl
-by-rest false false true w v x e p = absurd (false≢true (sym p))
-by-rest false false false w v x e p = absurd (false≢true (sym e))
+-- ---- one component more, by its length and its first two bytes
 
--- lists of other lengths are not the same
-pub other_length : (c d : List ℕ) → (length c ≡ length d → ⊥) → same c d ≡ false
-unfolding same
-other_length [] [] h = absurd (h refl)
-other_length [] (b ∷ d) h = refl
-other_length (a ∷ c) [] h = refl
-other_length (a ∷ c) (b ∷ d) h = rw (other_length c d (λ e. h (ap suc e))) (and-false (eqb a b))
+module _ (w : List ℕ) where
+  pub entered-empty : (c : List ℕ) → length c ≡ 0 → entered_bytes w c ≡ w
+  unfolding entered_bytes same
+  entered-empty [] h = refl
+  entered-empty (a ∷ c) h = absurd (omega arith)
 
-module _ (w c : List ℕ) (n : ℕ) where
-  pub begins-name : {v : List ℕ} {r : ℕ} → is_name c ≡ true → Begins v r (n + 1 + length c) (take n w ++ slash ∷ c) → Begins v r (n + 1 + length c) (entered_bytes (take n w) c)
+  pub entered-here : (c : List ℕ) → length c ≡ 1 → get_or c 0 0 ≡ dot → entered_bytes w c ≡ w
+  unfolding entered_bytes same
+  entered-here [] h k = absurd (omega arith)
+  entered-here (a ∷ []) h k = rw k
+  entered-here (a ∷ b ∷ c) h k = absurd (omega arith)
+
+  pub entered-up : (c : List ℕ) → length c ≡ 2 → get_or c 0 0 ≡ dot → get_or c 1 0 ≡ dot → entered_bytes w c ≡ before_last w
+  unfolding entered_bytes same
+  entered-up [] h k l = absurd (omega arith)
+  entered-up (a ∷ []) h k l = absurd (omega arith)
+  entered-up (a ∷ b ∷ []) h k l = rw (k, l)
+  entered-up (a ∷ b ∷ d ∷ c) h k l = absurd (omega arith)
+
+  pub entered-name : (c : List ℕ) → is_name c ≡ true → entered_bytes w c ≡ w ++ slash ∷ c
   unfolding entered_bytes is_name
-  begins-name e b = rw (by_name (same c []) (same c (dot ∷ [])) (same c (dot ∷ dot ∷ [])) (take n w) (before_last (take n w)) (take n w ++ slash ∷ c) e) b
+  entered-name c = go (same c []) (same c (dot ∷ [])) (same c (dot ∷ dot ∷ []))
+    where
+      go : (empty here up : Bool) → not empty && not here && not up ≡ true
+          → cond empty w (cond here w (cond up (before_last w) (w ++ slash ∷ c))) ≡ w ++ slash ∷ c
+      go true here up e = absurd (false≢true e)
+      go false true up e = absurd (false≢true e)
+      go false false true e = absurd (false≢true e)
+      go false false false e = refl
 
-  module _ (e : is_name c ≡ false) where
-    pub begins-up : {r : ℕ} → length c ≡ 2 → Begins w r n (before_last (take n w)) → Begins w r (n + 1 + length c) (entered_bytes (take n w) c)
-    unfolding entered_bytes is_name
-    begins-up z b = record {
-      few = omega (arith, b.few);
-      front = b.front ∙ sym (by-up (same c []) (same c (dot ∷ [])) (same c (dot ∷ dot ∷ [])) (take n w) (before_last (take n w)) (take n w ++ slash ∷ c) e
-          (other_length c [] (λ k. omega arith)) (other_length c (dot ∷ []) (λ k. omega arith)));
-    }
+-- the first n bytes begin with what the first of them begin with
+pub begins_within : {w v : List ℕ} {r : ℕ} (n : ℕ) (most : ℕ) → n ≤ most → Begins (take n w) r (length (take n w)) v → Begins w r most v
+begins_within {w = w} {r = r} n most h b =
+    let few : r ≤ n = omega (arith, b.few, length-take n w) in
+    record { few = omega arith; front = rw take-take at b.front }
 
-    pub begins-rest : (length c ≡ 2 → ⊥) → Begins w n (n + 1 + length c) (entered_bytes (take n w) c)
-    unfolding entered_bytes is_name
-    begins-rest h = record {
-      few = omega arith;
-      front = sym (by-rest (same c []) (same c (dot ∷ [])) (same c (dot ∷ dot ∷ [])) (take n w) (before_last (take n w)) (take n w ++ slash ∷ c) e
-          (other_length c (dot ∷ dot ∷ []) h));
-    }
+pub ruleset entering = (names, entered-empty, entered-here, entered-up, entered-name)
 
 -- ---- components entered in turn, in bytes
 
--- n bytes are entered of the components before `from`, and the others follow
-pub record Entering (w₀ : List ℕ) (len : ℕ) (src w : List ℕ) (n from : ℕ) : Type 0 where
-  pub inside : from ≤ length src + 1
-  pub few : n ≤ len + from
+-- n bytes are entered of the components before cs, and cs follow
+pub record Entering (w₀ : List ℕ) (len : ℕ) (src w : List ℕ) (n : ℕ) (cs : List (List ℕ)) : Type 0 where
+  pub few : n + length (slashed cs) ≤ len + length src + 1
   pub long : length w ≡ length w₀
-  pub rest : enter_all_bytes (take len w₀) (pieces src) ≡ enter_all_bytes (take n w) (pieces_from src from)
+  pub rest : enter_all_bytes (take len w₀) (pieces src) ≡ enter_all_bytes (take n w) cs
 
-pub entering-start : (w : List ℕ) (len : ℕ) (src : List ℕ) → Entering w len src w len 0
-entering-start w len src =
-    record { inside = omega arith; few = omega arith; long = refl; rest = ap (enter_all_bytes (take len w)) (sym (pieces_from-start src)) }
+pub entering-start : (w : List ℕ) (len : ℕ) (src : List ℕ) → Entering w len src w len (pieces src)
+entering-start w len src = record { few = rw slashed-pieces (omega arith); long = refl; rest = refl }
 
-module _ {w₀ : List ℕ} {len : ℕ} {src w : List ℕ} {n from : ℕ} (i : Entering w₀ len src w n from) where
-  pub entering-more : {w' : List ℕ} {r end : ℕ} → EndsAt src from end → length w' ≡ length w
-      → Begins w' r (n + 1 + length (take (end - from) (drop from src))) (entered_bytes (take n w) (take (end - from) (drop from src)))
-      → Entering w₀ len src w' r (end + 1)
+module _ {w₀ : List ℕ} {len : ℕ} {src w : List ℕ} {n : ℕ} where
+  -- how much room the next component takes
+  pub entering-room : {c : List ℕ} {cs : List (List ℕ)} → Entering w₀ len src w n (c ∷ cs) → n + 1 + length c + length (slashed cs) ≤ len + length src + 1
+  unfolding slashed
+  entering-room {c = c} {cs = cs} i = omega (arith, i.few, length-append c (slashed cs))
+
+  pub entering-more : {w' : List ℕ} {r : ℕ} {c : List ℕ} {cs : List (List ℕ)} → Entering w₀ len src w n (c ∷ cs) → length w' ≡ length w
+      → Begins w' r (n + 1 + length c) (entered_bytes (take n w) c) → Entering w₀ len src w' r cs
   unfolding enter_all_bytes
-  entering-more {end = end} e l b = record {
-    inside = omega (arith, e.high);
-    few = omega (arith, i.few, e.low, b.few, length_part src from end e.low e.high);
+  entering-more {cs = cs} i l b = record {
+    few = omega (arith, b.few, entering-room i);
     long = l ∙ i.long;
-    rest = i.rest ∙ ap (enter_all_bytes (take n w)) e.first ∙ ap (λ (v : List ℕ). enter_all_bytes v (pieces_from src (end + 1))) (sym b.front);
+    rest = i.rest ∙ ap (λ (v : List ℕ). enter_all_bytes v cs) (sym b.front);
   }
 
-  pub entering-end : length src < from → Begins w n (len + length src + 1) (enter_all_bytes (take len w₀) (pieces src))
+  pub entering-end : Entering w₀ len src w n [] → Begins w n (len + length src + 1) (enter_all_bytes (take len w₀) (pieces src))
   unfolding enter_all_bytes
-  entering-end h = record { few = omega (arith, i.inside, i.few); front = sym (i.rest ∙ ap (enter_all_bytes (take n w)) (pieces_from-out src from h)) }
+  entering-end i = record { few = omega (arith, i.few); front = sym i.rest }
+
+-- a `for` over the parts that `split` gives, which has had xs: at a turn one component and those behind it, at the end none
+module _ {F : Type 0} {g : Mut F (Bor ℕ × Unit {0}) Bool} {f : F} {s i : Split ℕ F} (src : List ℕ)
+  (begun : i ≡ s) (rest : split_rest s ≡ src) (left : split_done s ≡ false) (closure : split_callee s ≡ f)
+  (xs : List (Bor (List ℕ))) (t : Split ℕ F) (so_far : Yields (split_steps g) i xs t) where
+  parts : ((x : ℕ) (b : Bool) (q : F) → CalledAt g f x b q → (q ≡ f) × (b ≡ eqb x slash)) → YieldsList (split_steps g) (λ x. x.now) i (slice_split (λ b. eqb b slash) src)
+  parts slashes = YieldsList-at begun (YieldsList-from_slice_split g (λ b. eqb b slash) src rest left closure slashes)
+
+  pub parts_turn : (r : Option (Bor (List ℕ))) (u : Split ℕ F) (x : Bor (List ℕ)) → r ≡ Some x → split_steps g t r u
+      → ((x : ℕ) (b : Bool) (q : F) → CalledAt g f x b q → (q ≡ f) × (b ≡ eqb x slash)) → drop (length xs) (pieces src) ≡ x.now ∷ drop (length xs + 1) (pieces src)
+  parts_turn r u x e next slashes =
+      let h = YieldsList-turn (parts slashes) xs t so_far r u x e next in
+      rw (pieces-split, add-one (length xs), drop-cons (slice_split (λ b. eqb b slash) src) (length xs) x.now h.0, ← h.1)
+
+  pub parts-end : (r : Option (Bor (List ℕ))) (u : Split ℕ F) → r ≡ None → split_steps g t r u
+      → ((x : ℕ) (b : Bool) (q : F) → CalledAt g f x b q → (q ≡ f) × (b ≡ eqb x slash)) → drop (length xs) (pieces src) ≡ []
+  parts-end r u e next slashes =
+      let h = YieldsList-end (parts slashes) xs t so_far r u e next in
+      rw pieces-split (drop_all (length xs) _ (omega arith))
 
 -- ---- the bytes are those of the components
 

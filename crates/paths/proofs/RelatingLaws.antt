@@ -13,7 +13,7 @@ use borrow.Author.Tests.{eq-eqb, ne_eqb, eqb-true, eqb-false}
 use Rattle.paths.specs.Components.{slash, same, grown, parted, pieces, without_empty, components}
 use Rattle.paths.specs.Relations.{shared, common, number_order, or_else, in_turn, path_order, related_by, relation, comparison}
 use Rattle.paths.specs.CommonPart.{leads}
-use Rattle.paths.specs.Relating.{rank_of, Begins, FirstEnd}
+use Rattle.paths.specs.Relating.{rank_of, Begins}
 use Rattle.paths.specs.declared.Relation.{Relation}
 use Rattle.paths.specs.declared.Relation.TheVariants.{Equal, Prefix, Extension, Less, Greater}
 use Rattle.paths.specs.declared.Comparison.{Comparison}
@@ -156,6 +156,10 @@ module _ (p : List ℕ) (i : ℕ) where
   unfolding components pieces parted without_empty
   slash-passed h e = rw (add-one i, drop-cons p i 0 h, eq-eqb _ _ e)
 
+-- what a rank is, and what a slash is behind
+pub ruleset ranks = (rank-end, rank-slash, rank-byte)
+pub ruleset slashes = (rank-byte, slash-passed)
+
 -- two bytes of one rank are the same
 rank_same : (a b : ℕ) → rank_of (a ∷ []) ≡ rank_of (b ∷ []) → a ≡ b
 unfolding rank_of
@@ -206,6 +210,13 @@ module _ {p q : List ℕ} {n i j k l : ℕ} (s : Between p q n i j) (b : Begins 
   pub second-ends : (k ≡ length p → ⊥) → l ≡ length q → compared Extension n ≡ comparison p q
   second-ends e f =
       sym (between-begins.decides ∙ rw (components-end q l (omega arith)) (extension-by n (stands (drop k p)) (b.begins (omega (arith, b.within)))))
+
+-- both paths go on, p from i and q from j, as far as p does up to `end`, and there one of them ends
+pub record FirstEnd (p : List ℕ) (i : ℕ) (q : List ℕ) (j end : ℕ) : Type 0 where
+  pub ahead : i ≤ end
+  pub left : end ≤ length p
+  pub right : j + end ≤ length q + i
+  pub one : end < length p → j + end ≡ length q + i
 
 -- i and j lie inside components, that of p begun at i₀, n are shared before it, what is left of both decides, and the first path to end does so at `end`
 pub record Inside (p q : List ℕ) (n i₀ end i j : ℕ) : Type 0 where

@@ -2,6 +2,7 @@
 use Prim.Native.Nat.{ℕ, zero, suc, ◌≤◌, ◌<◌}
 use mathlib.Core.Path.{◌≡◌, refl, sym, ap, ap₂, ◌∙◌, subst}
 use mathlib.Core.List.{List, [], ◌∷◌}
+use mathlib.Core.Logic.{◌⊎◌, inl, inr}
 use mathlib.Core.Bool.{Bool, true, false, ◌&&◌, false≢true}
 use native.Mathlib.Omega.{arith}
 use native.Mathlib.Decide.{dec_lt}
@@ -276,6 +277,24 @@ relation-said p q r e = record {
 pub compared-said : {p q : List ℕ} {r : Comparison} {a : Relation} → r ≡ comparison p q → r.relation ≡ a → Said p q (says_prefix a) (says_prefix (turned a)) (says_order a)
 unfolding comparison
 compared-said {p} {q} {r} {a} e f = relation-said p q a (sym (ap (λ (c : Comparison). c.relation) e) ∙ f)
+
+-- a prefix is found exactly where equal or prefix is said
+module _ (p q : List ℕ) {r : Comparison} (e : r ≡ comparison p q) where
+  pub prefix-found : (r.relation ≡ Equal) ⊎ (r.relation ≡ Prefix) → true ≡ is_prefix p q
+  prefix-found (inl f) = sym (compared-said e f).prefix
+  prefix-found (inr f) = sym (compared-said e f).prefix
+
+  pub no-prefix-found : (r.relation ≡ Equal → ⊥) → (r.relation ≡ Prefix → ⊥) → false ≡ is_prefix p q
+  no-prefix-found f g = go r.relation refl
+    where
+      go : (a : Relation) → r.relation ≡ a → false ≡ is_prefix p q
+      go Equal k = absurd (f k)
+      go Prefix k = absurd (g k)
+      go Extension k = sym (compared-said e k).prefix
+      go Less k = sym (compared-said e k).prefix
+      go Greater k = sym (compared-said e k).prefix
+
+pub ruleset prefixes = (prefix-found, no-prefix-found)
 
 module _ (p q : List ℕ) where
   -- equal is said of the same components

@@ -1,18 +1,19 @@
--- Laws of scanning: the end of a component, names, and resolved form by names.
+-- Laws of scanning: components as `split` gives them, names, and resolved form by names.
 use Prim.Native.Nat.{ℕ, suc, ◌+◌, ◌-◌, ◌≤◌, ◌<◌}
 use mathlib.Core.Path.{◌≡◌, refl, sym, ap, ◌∙◌}
 use mathlib.Core.List.{List, [], ◌∷◌, ◌++◌, tail-eq_of_cons-eq, nil≢cons}
-use mathlib.Core.Bool.{Bool, true, false, ◌&&◌, not, false≢true}
+use mathlib.Core.Bool.{Bool, true, false, ◌&&◌, not, cond, false≢true}
 use native.Mathlib.Omega.{arith}
 use native.Mathlib.Numerals.{add-one}
 use lib.ListN.{length, get_or, take, drop, length-drop, take-append-drop}
 use lib.Seq.{take-suc, drop-cons, drop-drop, get_or-drop, take_all}
 use lib.Dec.{eqb}
+use Rattle.std.specs.List.{slice_split, onto_first, list_all}
 use borrow.Author.Count.{below_more}
 use borrow.Author.Tests.{le-leb, lt-leb, ne_eqb, eq-eqb, eqb-true, eqb-false}
 use Rattle.paths.specs.Components.{slash, dot, same, grown, parted, pieces, slashed, spell}
 use Rattle.paths.specs.Resolving.{is_absolute, is_name, entered, enter_all, normalize, is_resolved}
-use Rattle.paths.specs.Scanning.{pieces_from, EndsAt, all_names, plain_pair, PlainBelow, plain_at, plain_eight}
+use Rattle.paths.specs.Scanning.{all_names, plain_pair, PlainBelow, plain_at, plain_eight}
 use Rattle.paths.proofs.ComponentLaws.{
   and_left,
   and_right,
@@ -31,79 +32,22 @@ use Rattle.paths.proofs.ComponentLaws.{
 }
 use Rattle.paths.proofs.ResolvingLaws.{Name, Spelled, resolved-spelled, spelled-resolved, resolved-absolute}
 
--- ---- the first component
+-- ---- slashes part a path as std's `split` does
 
-pieces-until : {c : List ℕ} (p : List ℕ) → Unslashed c → pieces (c ++ slash ∷ p) ≡ c ∷ pieces p
-unfolding grown
-pieces-until p none = pieces-slash p
-pieces-until p (more {b = b} {c = c} h u) = pieces-byte b (c ++ slash ∷ p) h ∙ ap (grown b) (pieces-until p u)
+pub pieces-split : (p : List ℕ) → pieces p ≡ slice_split (λ b. eqb b slash) p
+unfolding pieces parted grown
+pieces-split [] = refl
+pieces-split (b ∷ p) = go (eqb b slash) (pieces p) ∙ ap (λ (cs : List (List ℕ)). cond (eqb b slash) ([] ∷ cs) (onto_first b cs)) (pieces-split p)
+  where
+    go : (t : Bool) (cs : List (List ℕ)) → parted t b cs ≡ cond t ([] ∷ cs) (onto_first b cs)
+    go true cs = refl
+    go false [] = refl
+    go false (c ∷ cs) = refl
 
-pieces-last : {c : List ℕ} → Unslashed c → pieces c ≡ c ∷ []
-unfolding grown pieces
-pieces-last none = refl
-pieces-last (more {b = b} {c = c} h u) = pieces-byte b c h ∙ ap (grown b) (pieces-last u)
-
-unslashed-snoc : {c : List ℕ} (b : ℕ) → Unslashed c → (b ≡ slash → ⊥) → Unslashed (c ++ b ∷ [])
-unslashed-snoc b none h = more h none
-unslashed-snoc b (more k u) h = more k (unslashed-snoc b u h)
-
-module _ (p : List ℕ) (at : ℕ) where
-  pieces_from-in : at ≤ length p → pieces_from p at ≡ pieces (drop at p)
-  unfolding pieces_from
-  pieces_from-in h = rw (le-leb _ _ h)
-
-  pub pieces_from-out : length p < at → pieces_from p at ≡ []
-  unfolding pieces_from
-  pieces_from-out h = rw (lt-leb _ _ h)
-
-pub pieces_from-start : (p : List ℕ) → pieces_from p 0 ≡ pieces p
-pieces_from-start p = pieces_from-in p 0 (omega arith)
-
--- ---- a scan from a component's start on, with no slash so far
-
-pub record Scanned (p : List ℕ) (at end : ℕ) : Type 0 where
-  pub low : at ≤ end
-  pub high : end ≤ length p
-  pub clean : Unslashed (take (end - at) (drop at p))
-
-pub scanned-start : (p : List ℕ) (at : ℕ) → at ≤ length p → Scanned p at at
-scanned-start p at h =
-    let z : at - at ≡ 0 = omega arith in
-    record { low = omega arith; high = h; clean = rw z none }
-
-module _ (p : List ℕ) (at end : ℕ) (s : Scanned p at end) where
-  pub scanned-more : end < length p → (get_or p end 0 ≡ slash → ⊥) → Scanned p at (end + 1)
-  scanned-more h k =
-      let e : end + 1 - at ≡ suc (end - at) = omega (arith, s.low) in
-      let j : at + (end - at) ≡ end = omega (arith, s.low) in
-      let l : end - at < length (drop at p) = omega (arith, length-drop at p, s.low) in
-      record {
-        low = omega (arith, s.low);
-        high = omega arith;
-        clean = rw (e, take-suc (drop at p) (end - at) 0 l, get_or-drop at p (end - at) 0, j) (unslashed-snoc (get_or p end 0) s.clean k);
-      }
-
-  parts : drop at p ≡ take (end - at) (drop at p) ++ drop end p
-  parts =
-      let j : at + (end - at) ≡ end = omega (arith, s.low) in
-      sym (take-append-drop (end - at) (drop at p)) ∙ ap (λ (l : List ℕ). take (end - at) (drop at p) ++ l) (rw (drop-drop, j))
-
-  pub scanned-slash : end < length p → get_or p end 0 ≡ slash → EndsAt p at end
-  scanned-slash h k = record {
-    low = s.low;
-    high = s.high;
-    first = pieces_from-in p at (omega (arith, s.low)) ∙ ap pieces (parts ∙ ap (λ (l : List ℕ). take (end - at) (drop at p) ++ l) (rw (add-one end, drop-cons p end 0 h, k)))
-        ∙ pieces-until (drop (end + 1) p) s.clean ∙ rw (pieces_from-in p (end + 1) (omega arith));
-  }
-
-  pub scanned-end : length p ≤ end → EndsAt p at end
-  scanned-end h = record {
-    low = s.low;
-    high = s.high;
-    first =
-        let z : take (end - at) (drop at p) ≡ drop at p = take_all (end - at) (drop at p) (omega (arith, length-drop at p)) in
-        pieces_from-in p at (omega (arith, s.low, s.high)) ∙ rw (pieces_from-out p (end + 1) (omega arith)) (ap pieces (sym z) ∙ pieces-last s.clean);
-  }
+pub all_names-all : (cs : List (List ℕ)) → all_names cs ≡ list_all is_name cs
+unfolding all_names
+all_names-all [] = refl
+all_names-all (c ∷ cs) = ap (λ (t : Bool). is_name c && t) (all_names-all cs)
 
 -- ---- a component is a name, by its length and its first two bytes
 
@@ -134,31 +78,23 @@ is_name-dot [] h k = refl
 is_name-dot (a ∷ []) h k = rw k
 is_name-dot (a ∷ b ∷ c) h k = absurd (omega arith)
 
-pub is_name-two : (c : List ℕ) → length c ≡ 2 → get_or c 0 0 ≡ dot → is_name c ≡ not (eqb (get_or c 1 0) dot)
+pub is_name-up : (c : List ℕ) → length c ≡ 2 → get_or c 0 0 ≡ dot → get_or c 1 0 ≡ dot → is_name c ≡ false
 unfolding is_name same
-is_name-two [] h k = absurd (omega arith)
-is_name-two (a ∷ []) h k = absurd (omega arith)
-is_name-two (a ∷ b ∷ []) h k = rw k (last (eqb b dot))
-  where
-    last : (t : Bool) → not (t && true) ≡ not t
-    last true = refl
-    last false = refl
-is_name-two (a ∷ b ∷ d ∷ c) h k = absurd (omega arith)
+is_name-up [] h k l = refl
+is_name-up (a ∷ []) h k l = absurd (omega arith)
+is_name-up (a ∷ b ∷ []) h k l = rw (k, l)
+is_name-up (a ∷ b ∷ d ∷ c) h k l = absurd (omega arith)
+
+pub is_name-second : (c : List ℕ) → length c ≡ 2 → (get_or c 1 0 ≡ dot → ⊥) → is_name c ≡ true
+unfolding is_name same
+is_name-second [] h k = absurd (omega arith)
+is_name-second (a ∷ []) h k = absurd (omega arith)
+is_name-second (a ∷ b ∷ []) h k = rw (ne_eqb b dot k, and-false (eqb a dot))
+is_name-second (a ∷ b ∷ d ∷ c) h k = absurd (omega arith)
+
+pub ruleset names = (is_name-empty, is_name-dot, is_name-up, is_name-long, is_name-other, is_name-second)
 
 -- ---- every component is a name
-
-module _ {p : List ℕ} {at end : ℕ} (s : EndsAt p at end) where
-  pub all_names-bad : is_name (take (end - at) (drop at p)) ≡ false → all_names (pieces_from p at) ≡ false
-  unfolding all_names
-  all_names-bad e = rw (s.first, e)
-
-  pub all_names-good : is_name (take (end - at) (drop at p)) ≡ true → all_names (pieces_from p at) ≡ all_names (pieces_from p (end + 1))
-  unfolding all_names
-  all_names-good e = rw (s.first, e)
-
-pub all_names-none : (p : List ℕ) (at : ℕ) → length p < at → all_names (pieces_from p at) ≡ true
-unfolding all_names
-all_names-none p at h = rw (pieces_from-out p at h)
 
 each-all_names : {cs : List (List ℕ)} → Each Name cs → all_names cs ≡ true
 unfolding all_names
@@ -200,30 +136,40 @@ resolved-when b q =
       unslashed = pieces-unslashed (b ∷ q);
     }))
 
-pub resolved-names : (p : List ℕ) → 1 < length p → get_or p 0 0 ≡ slash → is_resolved p ≡ all_names (pieces (take (length p - 1) (drop 1 p)))
-resolved-names [] h k = absurd (omega arith)
-resolved-names (a ∷ []) h k = absurd (omega arith)
-resolved-names (a ∷ b ∷ q) h k =
+absolute-slash : (p : List ℕ) → is_absolute p ≡ true → (0 < length p) × (get_or p 0 0 ≡ slash)
+unfolding is_absolute
+absolute-slash [] e = absurd (false≢true e)
+absolute-slash (b ∷ p) e = (omega arith, eqb-true b slash e)
+
+pub absolute_some : (p : List ℕ) → is_absolute p ≡ true → 0 < length p
+absolute_some p e = (absolute-slash p e).0
+
+pub absolute_first : (p : List ℕ) → is_absolute p ≡ true → get_or p 0 0 ≡ slash
+absolute_first p e = (absolute-slash p e).1
+
+names-resolved : (p : List ℕ) → 1 < length p → get_or p 0 0 ≡ slash → is_resolved p ≡ all_names (pieces (take (length p - 1) (drop 1 p)))
+names-resolved [] h k = absurd (omega arith)
+names-resolved (a ∷ []) h k = absurd (omega arith)
+names-resolved (a ∷ b ∷ q) h k =
     ap (λ (x : ℕ). is_resolved (x ∷ b ∷ q)) k ∙ resolved-when b q
     ∙ ap (λ (l : List ℕ). all_names (pieces l)) (sym (take_all (length (a ∷ b ∷ q) - 1) (b ∷ q) (omega arith)))
 
-pub resolved-root : (p : List ℕ) → length p ≡ 1 → get_or p 0 0 ≡ slash → is_resolved p ≡ true
+pub resolved-names : (p : List ℕ) → is_absolute p ≡ true → (length p ≡ 1 → ⊥) → is_resolved p ≡ all_names (pieces (take (length p - 1) (drop 1 p)))
+resolved-names p e h = names-resolved p (omega (arith, absolute_some p e)) (absolute_first p e)
+
+root-resolved : (p : List ℕ) → length p ≡ 1 → get_or p 0 0 ≡ slash → is_resolved p ≡ true
 unfolding is_resolved normalize spell pieces parted enter_all entered same
-resolved-root [] h k = absurd (omega arith)
-resolved-root (a ∷ []) h k = ap (λ (x : ℕ). is_resolved (x ∷ [])) k
-resolved-root (a ∷ b ∷ q) h k = absurd (omega arith)
+root-resolved [] h k = absurd (omega arith)
+root-resolved (a ∷ []) h k = ap (λ (x : ℕ). is_resolved (x ∷ [])) k
+root-resolved (a ∷ b ∷ q) h k = absurd (omega arith)
 
-relative : (p : List ℕ) → (get_or p 0 0 ≡ slash → ⊥) → is_absolute p ≡ true → ⊥
-unfolding is_absolute
-relative [] k e = false≢true e
-relative (a ∷ p) k e = k (eqb-true a slash e)
+pub resolved-root : (p : List ℕ) → is_absolute p ≡ true → length p ≡ 1 → is_resolved p ≡ true
+resolved-root p e h = root-resolved p h (absolute_first p e)
 
-pub relative-unresolved : (p : List ℕ) → (get_or p 0 0 ≡ slash → ⊥) → is_resolved p ≡ false
-relative-unresolved p k = both (is_resolved p) false (λ e. absurd (relative p k (resolved-absolute p e))) (λ e. absurd (false≢true e))
+pub relative-unresolved : (p : List ℕ) → is_absolute p ≡ false → is_resolved p ≡ false
+relative-unresolved p e = both (is_resolved p) false (λ f. absurd (false≢true (sym e ∙ resolved-absolute p f))) (λ f. absurd (false≢true f))
 
-pub empty-unresolved : (p : List ℕ) → length p ≡ 0 → is_resolved p ≡ false
-empty-unresolved [] h = relative-unresolved [] (λ e. omega arith)
-empty-unresolved (a ∷ p) h = absurd (omega arith)
+pub ruleset resolved = (absolute_some, absolute_first, resolved-names, resolved-root, relative-unresolved)
 
 -- ---- the quick test
 

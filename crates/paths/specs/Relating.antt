@@ -1,6 +1,5 @@
--- What the helpers of `relate` answer: where a component begins, how what stands there compares, and where the first path ends; and what the quick
--- test `is_apart` looks at.
-use Rattle.std.specs.Prelude.{ℕ, ◌+◌, ◌%◌, ◌≤◌, ◌<◌, ◌≡◌, List, [], ◌∷◌, Bool, true, false, ◌&&◌, cond, length, get_or, drop, eqb, ltb}
+-- What the helpers of `relate` answer: where a component begins, and how what stands there compares; and what the quick test `is_apart` looks at.
+use Rattle.std.specs.Prelude.{ℕ, ◌+◌, ◌%◌, ◌≤◌, ◌<◌, ◌≡◌, List, [], ◌∷◌, Bool, true, false, ◌&&◌, min, cond, length, get_or, drop, eqb}
 use Rattle.paths.specs.Components.{slash, components}
 
 -- how the start of a path compares inside a component: 0 where the component ends, and else one more than the byte
@@ -14,13 +13,6 @@ pub record Begins (p : List ℕ) (i at : ℕ) : Type 0 where
   pub within : at ≤ length p
   pub same : components (drop at p) ≡ components (drop i p)
   pub begins : at < length p → 0 < rank_of (drop at p)
-
--- both paths go on, p from i and q from j, as far as p does up to `end`, and there one of them ends
-pub record FirstEnd (p : List ℕ) (i : ℕ) (q : List ℕ) (j end : ℕ) : Type 0 where
-  pub ahead : i ≤ end
-  pub left : end ≤ length p
-  pub right : j + end ≤ length q + i
-  pub one : end < length p → j + end ≡ length q + i
 
 -- ---- a quick test
 
@@ -37,13 +29,9 @@ same_eight p q i =
 pub record SameBytes (p q : List ℕ) (from to : ℕ) : Type 0 where
   pub bytes : (k : ℕ) → from ≤ k → k < to → get_or p k 0 ≡ get_or q k 0
 
--- how many bytes the shorter path has
-unfoldable pub lesser_length : List ℕ → List ℕ → ℕ
-lesser_length p q = cond (ltb (length p) (length q)) (length p) (length q)
-
--- as many both have, and of these eights from the end are the same: all but the first up to seven
+-- of as many bytes as the shorter path has, eights from the end are the same in both: all but the first up to seven
 abbrev pub EndAlike : List ℕ → List ℕ → Type 0
-EndAlike p q = SameBytes p q (lesser_length p q % 8) (lesser_length p q)
+EndAlike p q = SameBytes p q (min (length p) (length q) % 8) (min (length p) (length q))
 
 -- the quick test says whether they are not
 pub record TellsApart (p q : List ℕ) (r : Bool) : Type 0 where

@@ -1,17 +1,7 @@
--- Scanning a path: where its components begin and end.
+-- Scanning a path: whether its components are names, and what the quick test `is_plain` looks at.
 use Rattle.std.specs.Prelude.{ℕ, ◌+◌, ◌-◌, ◌≤◌, ◌<◌, ◌≡◌, List, [], ◌∷◌, Bool, true, ◌&&◌, ◌||◌, not, cond, length, get_or, take, drop, eqb, leb}
 use Rattle.paths.specs.Components.{slash, dot, pieces}
 use Rattle.paths.specs.Resolving.{is_name}
-
--- the components that begin at an offset and behind it; past the end there are none
-unfoldable pub pieces_from : List ℕ → ℕ → List (List ℕ)
-pieces_from p at = cond (leb at (length p)) (pieces (drop at p)) []
-
--- the component that begins at an offset ends at another: the next one begins behind the slash there
-pub record EndsAt (p : List ℕ) (at end : ℕ) : Type 0 where
-  pub low : at ≤ end
-  pub high : end ≤ length p
-  pub first : pieces_from p at ≡ take (end - at) (drop at p) ∷ pieces_from p (end + 1)
 
 unfoldable pub all_names : List (List ℕ) → Bool
 all_names [] = true

@@ -7,11 +7,7 @@ pub fn copy_in(mem: &mut [u8], at: usize, src: &[u8])
     requires { at + length src.now ≤ length mem.old }
     ensures { mem.new ≡ overwrite mem.old at src.now }
 {
-    let mut i: usize = 0;
-    while i < src.len() {
-        mem[at + i] = src[i];
-        i += 1;
-    }
+    mem[at..at + src.len()].copy_from_slice(src);
 }
 
 // Writes a piece into the space from an offset on, and says where it ends.

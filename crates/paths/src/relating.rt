@@ -1,49 +1,33 @@
 // How two paths relate and how many components they share, in one pass over both, component by component and byte by byte.
 ghost use Rattle.std.specs.Prelude.{◌≡◌, ◌+◌, ◌≤◌, length, drop};
 ghost use Rattle.paths.specs.Relations.{is_prefix, comparison};
-ghost use Rattle.paths.specs.Relating.{rank_of, Begins, FirstEnd, same_eight, lesser_length, TellsApart};
+ghost use Rattle.paths.specs.Relating.{rank_of, Begins, same_eight, TellsApart};
 
 use crate::{Comparison, Relation};
 
 // How the byte at i compares inside a component: 0 where the component ends, and else one more than the byte.
+#[tactic(auto, using(crate::proofs::RelatingLaws::ranks))]
 fn rank(p: &[u8], i: usize) -> usize
     ensures { result ≡ rank_of (drop i p.now) }
 {
-    if p.len() <= i {
-        return 0;
+    match p.get(i) {
+        None | Some(b'/') => 0,
+        Some(b) => usize::from(*b) + 1,
     }
-    let b = p[i];
-    if b == b'/' {
-        return 0;
-    }
-    b as usize + 1
 }
 
 // Where the next component begins, from i on, or the end of the path.
+#[tactic(auto, using(crate::proofs::RelatingLaws::slashes))]
 fn next_component(p: &[u8], i: usize) -> usize
     requires { i ≤ length p.now }
     ensures { Begins p.now i result }
 {
-    let mut at = i;
-    while at < p.len() {
+    for at in i..p.len() {
         if p[at] != b'/' {
             return at;
         }
-        at += 1;
     }
-    at
-}
-
-// Where in p, read from i on beside q from j on, the first of the two paths ends.
-fn first_end(p: &[u8], i: usize, q: &[u8], j: usize) -> usize
-    requires { (i ≤ length p.now) × (j ≤ length q.now) }
-    ensures { FirstEnd p.now i q.now j result }
-{
-    if p.len() - i < q.len() - j {
-        p.len()
-    } else {
-        i + (q.len() - j)
-    }
+    p.len()
 }
 
 // How p relates to q, the same components, those of one at the start of the other's, and else by path order; and how many leading components they
@@ -75,7 +59,8 @@ pub fn relate(p: &[u8], q: &[u8]) -> Comparison
                 common,
             };
         }
-        let end = first_end(p, i, q, j);
+        // where in p the first of the two paths ends
+        let end = i + (p.len() - i).min(q.len() - j);
         loop {
             if i == end {
                 // one path ends: the component of the other must end with it
@@ -110,18 +95,11 @@ pub fn relate(p: &[u8], q: &[u8]) -> Comparison
 }
 
 // Whether p is a prefix of q, by whole components.
+#[tactic(auto, using(crate::proofs::RelationLaws::prefixes))]
 pub fn is_prefix(p: &[u8], q: &[u8]) -> bool
     ensures { result ≡ is_prefix p.now q.now }
 {
-    let compared = relate(p, q);
-    let relation = compared.relation;
-    match relation {
-        Relation::Equal => true,
-        Relation::Prefix => true,
-        Relation::Extension => false,
-        Relation::Less => false,
-        Relation::Greater => false,
-    }
+    matches!(relate(p, q).relation, Relation::Equal | Relation::Prefix)
 }
 
 // Whether the eight bytes from i on are the same in both. With no branch between them they are compared at once.
@@ -139,19 +117,12 @@ fn same_eight(p: &[u8], q: &[u8], i: usize) -> bool
         & (p[i + 7] == q[i + 7])
 }
 
-// How many bytes the shorter of two paths has.
-fn lesser_length(p: &[u8], q: &[u8]) -> usize
-    ensures { result ≡ lesser_length p.now q.now }
-{
-    if p.len() < q.len() { p.len() } else { q.len() }
-}
-
 // Whether a quick test finds that of two resolved paths neither is a prefix of the other: a byte that both have is not the same. From the end of the
 // shorter path it goes towards the start, where paths are likely to be alike, eight bytes at a time; the first up to seven are not looked at.
 pub fn is_apart(p: &[u8], q: &[u8]) -> bool
     ensures { TellsApart p.now q.now result }
 {
-    let mut n = lesser_length(p, q);
+    let mut n = p.len().min(q.len());
     while n >= 8 {
         n -= 8;
         if !same_eight(p, q, n) {

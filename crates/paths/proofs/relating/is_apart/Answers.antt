@@ -1,16 +1,11 @@
 use mathlib.Core.Path.{sym, ◌∙◌}
 use mathlib.Core.Bool.{true≢false, false≢true}
 use native.Mathlib.Omega.{arith}
-use Rattle.paths.proofs.ApartLaws.{Lesser, lesser, same_none, same-eight-more, same_rest, eight-same}
+use Rattle.paths.proofs.ApartLaws.{same_none, same-eight-more, same_rest, eight-same}
 use Rattle.paths.proofs.relating.is_apart.Goals as goal
 
 pub loop-n-init : goal.loop-n-init
-loop-n-init c = rw c.lesser_length-n.ensures (omega arith, omega arith, same_none _)
-
-pub same_eight-requires : goal.same_eight-requires
-same_eight-requires c =
-    let L : Lesser _ _ = lesser c.args.p.now c.args.q.now in
-    omega (arith, L.left, L.right)
+loop-n-init c = rw c.min-n.ensures (omega arith, omega arith, same_none _)
 
 pub returns-then-not-same_eight : goal.returns-then-not-same_eight
 returns-then-not-same_eight c =

@@ -1,11 +1,14 @@
 -- `is_apart` meets its contract. The loop's invariant: the bytes looked at are the same, and those left of them are eights. Assumes nothing.
-use Prim.Native.Nat.{◌%◌, ◌≤◌}
+use Prim.Native.Nat.{◌%◌, ◌≤◌, min}
 use mathlib.Core.Path.{◌≡◌}
-use Rattle.paths.specs.Relating.{SameBytes, lesser_length}
+use lib.ListN.{length}
+use Rattle.paths.specs.Relating.{SameBytes}
 use Rattle.paths.proofs.relating.is_apart.Given as goal
 
 abbrev pub invariant-loop-n : goal.invariant-loop-n
-invariant-loop-n l = (l.n ≤ lesser_length l.p l.q) × (l.n % 8 ≡ lesser_length l.p l.q % 8) × SameBytes l.p l.q l.n (lesser_length l.p l.q)
+invariant-loop-n l =
+    let both = min (length l.p) (length l.q) in
+    (l.n ≤ both) × (l.n % 8 ≡ both % 8) × SameBytes l.p l.q l.n both
 
 abbrev pub decreases-loop-n : goal.decreases-loop-n
 decreases-loop-n l = l.n

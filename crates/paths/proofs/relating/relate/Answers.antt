@@ -30,7 +30,8 @@ pub loop-i-init : goal.loop-i-init
 loop-i-init c =
     let b = c.next_component-i.ensures in
     let d = c.next_component-j.ensures in
-    inside-start (between-begins c.components.invariant b d) (b.begins (omega arith)) (d.begins (omega arith)) c.first_end-end.ensures
+    inside-start (between-begins c.components.invariant b d) (b.begins (omega arith)) (d.begins (omega arith))
+    (record { ahead = omega arith; left = omega arith; right = omega arith; one = λ h. omega arith })
 
 pub loop-i-preserved : goal.loop-i-preserved
 loop-i-preserved c =

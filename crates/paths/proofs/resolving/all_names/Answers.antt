@@ -1,19 +1,15 @@
-use mathlib.Core.Path.{sym, ap, ◌∙◌}
-use native.Mathlib.Omega.{arith}
-use Rattle.paths.specs.Scanning.{all_names}
-use Rattle.paths.proofs.Scanning.{pieces_from-start, all_names-bad, all_names-good, all_names-none}
+-- The components are what `split` gives. Assumes nothing.
+use Rattle.std.proofs.Common.{rules, tests, sym, ◌∙◌, eqb}
+use Rattle.std.proofs.lemmas.Iterator.Search.{all_from_yields_List}
+use Rattle.std.proofs.lemmas.Iterator.Splits.{YieldsList-from_slice_split}
+use Rattle.paths.specs.Components.{slash}
+use Rattle.paths.specs.Resolving.{is_name}
+use Rattle.paths.proofs.Scanning.{pieces-split, all_names-all}
 use Rattle.paths.proofs.resolving.all_names.Goals as goal
 
-pub loop-from-init : goal.loop-from-init
-loop-from-init c = (omega arith, ap all_names (sym (pieces_from-start _)))
-
-pub returns-then-not-is_name : goal.returns-then-not-is_name
-returns-then-not-is_name c =
-    sym (c.loop-from.invariant.1 ∙ all_names-bad c.component_end-end.ensures (sym c.is_name.ensures ∙ c.if-not-is_name.true))
-
-pub loop-from-preserved : goal.loop-from-preserved
-loop-from-preserved c =
-    (omega arith, c.loop-from.invariant.1 ∙ all_names-good c.component_end-end.ensures (sym c.is_name.ensures ∙ c.if-not-is_name.false))
-
 pub returns : goal.returns
-returns c = sym (c.loop-from.invariant.1 ∙ all_names-none _ _ c.loop-from-test.false)
+returns c =
+    all_from_yields_List is_name _ _ _ c.all.ensures.ran
+    (YieldsList-from_slice_split _ (λ b. eqb b slash) c.args.p.now c.split.ensures.rest c.split.ensures.done c.split.ensures.closure (λ x b q k. search (rules, tests)))
+    (λ x b q k. search (rules, tests))
+    ∙ rw pieces-split (sym (all_names-all _))

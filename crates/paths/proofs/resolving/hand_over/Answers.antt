@@ -1,19 +1,31 @@
--- Each answer has its law. Assumes nothing.
+-- What is handed over is the root, or what is entered. Assumes nothing.
+use Rattle.std.proofs.Common.{◌≡◌, ap, sym, ◌∙◌}
+use Rattle.std.proofs.lemmas.Bool.Decides.{nat_tests}
 use native.Mathlib.Omega.{arith}
-use lib.Seq.{length-take-le}
-use Rattle.paths.proofs.Answering.{handed-root, handed-long, handed-path}
+use denote.Ref.{Bor}
+use mathlib.Core.List.{List}
+use Prim.Native.Nat.{ℕ}
+use Rattle.paths.specs.Entering.{rooted}
+use Rattle.paths.proofs.Answering.{rooted_none, rooted_some, handed-long, handed-path}
 use Rattle.paths.proofs.resolving.hand_over.Goals as goal
+use Rattle.paths.proofs.resolving.hand_over.Goals.{then-is_empty, else-is_empty}
 
-pub returns-then-len-gt-MAX_PATH : goal.returns-then-len-gt-MAX_PATH
-returns-then-len-gt-MAX_PATH c = handed-long _ _ _ c.requires (omega arith)
-
-pub returns-then-len-eq0 : goal.returns-then-len-eq0
-returns-then-len-eq0 c = handed-root _ _ _ c.if-len-eq0.true c.copy_in.ensures
-
-pub copy_in-requires-2 : goal.copy_in-requires-2
-copy_in-requires-2 c =
-    omega (arith, length-take-le c.args.len c.args.work.now c.requires)
+pub returns-then-path-gt-MAX_PATH : goal.returns-then-path-gt-MAX_PATH
+returns-then-path-gt-MAX_PATH c =
+    let root : c.if-is_empty.path.now ≡ rooted c.args.entered.now =
+        elim c.if-is_empty.branch [
+          | then-is_empty w ↦ rw (w.path-is, rooted_none _ w.if-is_empty.ensures)
+          | else-is_empty w ↦ rw (w.path-is, rooted_some _ w.if-is_empty.ensures)
+        ]
+    in
+    handed-long _ _ root c.if-path-gt-MAX_PATH.true
 
 pub returns : goal.returns
 returns c =
-    handed-path _ _ _ c.requires c.if-len-eq0.false c.if-len-gt-MAX_PATH.false c.copy_in-2.ensures
+    let root : c.if-is_empty.path.now ≡ rooted c.args.entered.now =
+        elim c.if-is_empty.branch [
+          | then-is_empty w ↦ rw (w.path-is, rooted_none _ w.if-is_empty.ensures)
+          | else-is_empty w ↦ rw (w.path-is, rooted_some _ w.if-is_empty.ensures)
+        ]
+    in
+    handed-path _ _ root c.if-path-gt-MAX_PATH.false c.append.ensures

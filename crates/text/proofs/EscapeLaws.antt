@@ -1,16 +1,14 @@
--- Laws of escaping: digits, the bytes that stand for themselves, and a path byte by byte.
+-- Laws of escaping: how long a byte is as it is shown, and a path byte by byte.
 use Prim.Native.Nat.{ℕ, ◌+◌, ◌*◌, ◌-◌, ◌/◌, ◌%◌, ◌≤◌, ◌<◌}
 use mathlib.Core.Path.{◌≡◌, refl, sym, ap, ◌∙◌}
 use mathlib.Core.List.{List, [], ◌∷◌, ◌++◌, append-nil, append_assoc}
-use mathlib.Core.Bool.{Bool, true, false, ◌&&◌, not, cond}
+use mathlib.Core.Bool.{Bool, true, false, cond}
 use native.Mathlib.Omega.{arith}
 use native.Mathlib.Numerals.{add-one}
 use lib.ListN.{length, get_or, take, length-append}
-use lib.Seq.{take-suc, take_all}
-use lib.Dec.{leb, eqb}
-use borrow.Author.Tests.{lt-ltb, le-ltb, le-leb, lt-leb}
+use lib.Seq.{take-suc}
 use Rattle.paths.specs.Copying.{Appends}
-use Rattle.table.proofs.Overwrites.{appends-none, appends-as, appends-more}
+use Rattle.table.proofs.Overwrites.{appends-none, appends-more}
 use Rattle.text.specs.Escaping.{escaped_bytes, percent, is_plain, digit, escaped_byte, escaped}
 
 -- ---- a byte as it is shown
@@ -73,8 +71,3 @@ module _ {path space : List ℕ} {at : ℕ} {space' : List ℕ} {end i : ℕ} (E
     room = omega (arith, A.end, byte-long (get_or path i 0), E.room);
     same = l ∙ E.same;
   }
-
--- all of them
-pub escaping-end : {path space : List ℕ} {at : ℕ} {space' : List ℕ} {end i : ℕ} → Escaping path space at space' end i → length path ≤ i
-    → Appends (escaped path) space at space' end
-escaping-end {path} {i = i} E h = appends-as (ap escaped (take_all i path h)) E.written

@@ -1,6 +1,6 @@
 -- `take_words` meets its contract. The loop's invariant: the first `k` words are taken.
 use mathlib.Core.Path.{◌≡◌}
-use lib.ListN.{length, drop}
+use lib.ListN.{drop}
 use lib.Seq.{paste}
 use Rattle.input.specs.Words.{words_of}
 use Rattle.input.proofs.words.take_words.Given as goal

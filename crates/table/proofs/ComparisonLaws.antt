@@ -18,7 +18,7 @@ use Rattle.paths.specs.declared.Comparison.{Comparison}
 use Rattle.paths.specs.declared.Relation.{Relation}
 use Rattle.paths.specs.declared.Relation.TheVariants as relation
 use Rattle.paths.specs.Relations.{is_prefix, number_order, less, equal, greater, relation, comparison}
-use Rattle.paths.proofs.RelationLaws.{number_order-turned, path_order-turned, Said, relation-said}
+use Rattle.paths.proofs.RelationLaws.{number_order-turned, path_order-turned, Said, says_prefix, says_order, turned, relation-said, compared-said}
 use Rattle.table.specs.Entries.{Entry, is_granted, kind_precedence, same_path, strictly_extends, compare_alike, granted_order, compare, order_number}
 
 neg-neg : (x : ℤ) → neg_ℤ (neg_ℤ x) ≡ x
@@ -57,10 +57,17 @@ compare-turned old new =
 
 -- ---- the comparison, by how the two paths relate
 
-pub alike-said : (old new : Entry) {a b : Bool} {o : ℤ} → Said old.path new.path a b o
+alike-said : (old new : Entry) {a b : Bool} {o : ℤ} → Said old.path new.path a b o
     → compare_alike old new ≡ cond (a && b) (number_order (kind_precedence old.kind) (kind_precedence new.kind)) (cond (b && not a) less (cond (a && not b) greater o))
 unfolding compare_alike same_path strictly_extends
 alike-said old new s = rw (s.prefix, s.extension, s.order)
+
+-- with what `relate` finds
+pub alike-is : (old new : Entry) {r : Comparison} {a : Relation} → r ≡ comparison old.path new.path → r.relation ≡ a
+    → cond (says_prefix a && says_prefix (turned a)) (number_order (kind_precedence old.kind) (kind_precedence new.kind))
+    (cond (says_prefix (turned a) && not (says_prefix a)) less (cond (says_prefix a && not (says_prefix (turned a))) greater (says_order a)))
+    ≡ compare_alike old new
+alike-is old new e f = sym (alike-said old new (compared-said e f))
 
 pub granted-said : (p q : List ℕ) {a b : Bool} {o : ℤ} → Said p q a b o → granted_order p q ≡ cond (b && not a) less greater
 unfolding granted_order strictly_extends

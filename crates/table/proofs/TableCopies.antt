@@ -5,7 +5,7 @@ use mathlib.Core.Path.{◌≡◌, ap, ◌∙◌}
 use mathlib.Core.List.{List}
 use mathlib.Core.Bool.{true}
 use native.Mathlib.Omega.{arith}
-use native.Mathlib.Nat.{zero-add, sub-zero}
+use native.Mathlib.Nat.{zero-add}
 use lib.ListN.{length, take, drop}
 use Rattle.paths.specs.Components.{Bytes}
 use Rattle.paths.specs.Copying.{overwrite, Appends}
@@ -18,13 +18,13 @@ use Rattle.table.proofs.Overwrites.{over_below}
 use Rattle.table.proofs.ListingLaws.{used-front}
 
 module _ (p : List ℕ) (b : Bytes p) (h : holds p ≡ true) {end : ℕ} (e : end ≡ used_bytes (table_of p)) where
-  copied : take (end - 0) (drop 0 p) ≡ encode (table_of p)
-  copied = rw (e, sub-zero) (used-front p b h)
+  copied : take end p ≡ encode (table_of p)
+  copied = rw e (used-front p b h)
 
-  pub copy-fits : {k : ℕ} → table_bytes ≤ k → 0 + length (take (end - 0) (drop 0 p)) ≤ k
+  pub copy-fits : {k : ℕ} → table_bytes ≤ k → 0 + length (take end p) ≤ k
   copy-fits long = rw copied (omega (arith, encode-fits (table_of p) (valid-of p h)))
 
-  pub copy-law : (c : List ℕ) {c' : List ℕ} → c' ≡ overwrite c 0 (take (end - 0) (drop 0 p)) → c' ≡ put (table_of p) c
+  pub copy-law : (c : List ℕ) {c' : List ℕ} → c' ≡ overwrite c 0 (take end p) → c' ≡ put (table_of p) c
   unfolding overwrite put
   copy-law c q = q ∙ rw (copied, zero-add)
 

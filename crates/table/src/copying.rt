@@ -11,5 +11,5 @@ pub fn copy_table(from: &[u8], to: &mut [u8])
     ensures { to.new ≡ put (table_of from.now) to.old }
 {
     let end = used(from);
-    copy_in(to, 0, &from[0..end]);
+    copy_in(to, 0, &from[..end]);
 }

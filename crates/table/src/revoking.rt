@@ -15,12 +15,13 @@ fn drop_grants<F: Fn(&[u8]) -> bool>(mem: &mut [u8], selects: F)
     requires callable { F.IsAlwaysCallable selects }
     ensures { (selected : List ℕ → Bool) → Selects F.Fn selects selected → mem.new ≡ put (dropping (dropped_by selected) (table_of mem.old)) mem.old }
 {
-    let mut kept: usize = 0;
+    let mut kept = 0;
     let mut from = TABLE_HEAD;
     let mut to = TABLE_HEAD;
     for _ in 0..reading::word_at(mem, 0) {
         let size = reading::word_at(mem, from + LENGTH_OFFSET) + ENTRY_HEAD;
-        let goes = reading::kind_from(mem[from]) == Kind::G && selects(reading::entry_path(mem, from));
+        let goes = reading::kind_from(mem[from]) == Kind::G
+            && selects(reading::entry_path(mem, from));
         if !goes {
             writing::move_bytes(mem, from, to, size);
             to += size;

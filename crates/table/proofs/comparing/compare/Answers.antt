@@ -21,6 +21,6 @@ pub returns-in_default : goal.returns-in_default
 returns-in_default c =
     c.compare_alike.ensures
     ∙ elim c.in_default.branch [
-      in_default-via-then-is_granted+then-is_granted-2 w ↦ sym (compare-by _ _ {a = true} {b = true} (search rules) (search rules))
+      | in_default-via-then-is_granted+then-is_granted-2 w ↦ sym (compare-by _ _ {a = true} {b = true} (search rules) (search rules))
       | in_default-via-else-is_granted+else-this w ↦ sym (compare-by _ _ {a = false} {b = false} (search rules) (search rules))
     ]

@@ -1,11 +1,13 @@
 -- `copy_table` meets its contract: the bytes that it copies are the table.
+use mathlib.Core.Path.{sym}
 use native.Mathlib.Omega.{arith}
+use lib.Seq.{length-take-le}
 use Rattle.table.proofs.Puts.{long_of}
 use Rattle.table.proofs.TableCopies.{copy-fits, copy-law}
 use Rattle.table.proofs.copying.copy_table.Goals as goal
 
 pub slice_bounds-copy_in-end : goal.slice_bounds-copy_in-end
-slice_bounds-copy_in-end c = omega (arith, long_of _ c.requires.0)
+slice_bounds-copy_in-end c = sym (length-take-le _ _ (omega (arith, long_of _ c.requires.0)))
 
 pub copy_in-requires : goal.copy_in-requires
 copy_in-requires c =

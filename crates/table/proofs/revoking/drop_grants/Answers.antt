@@ -27,9 +27,9 @@ goes-by : (g : Over) (c : Joined-eq g) (selected : List ℕ → Bool) → Select
 goes-by g c selected S =
     let kind : is_granted (entry_at c.loop.mem c.loop.from).kind ≡ c.eq.result = sym (c.eq.ensures ∙ same-grant _ ∙ ap is_granted c.kind_from.ensures) in
     elim c.if-eq.branch [
-      then-eq w ↦
-        goes selected _ (kind ∙ w.if-eq.true) (S.answers _ _ (says_at g.F.Fn w.selects-goes.ensures refl) ∙ ap selected w.entry_path.ensures)
-        ∙ sym w.goes-is
+      | then-eq w ↦
+          goes selected _ (kind ∙ w.if-eq.true) (S.answers _ _ (says_at g.F.Fn w.selects-goes.ensures refl) ∙ ap selected w.entry_path.ensures)
+          ∙ sym w.goes-is
       | else-eq w ↦ stays selected _ (kind ∙ w.if-eq.false) ∙ sym (w.goes-is ∙ w.if-eq.false)
     ]
 
@@ -73,12 +73,12 @@ loop-preserved g c =
     let size : c.word_at-size.result + entry_head ≡ len_at c.loop.mem c.loop.from + entry_head = ap (λ (n : ℕ). n + entry_head) c.word_at-size.ensures.0 in
     let by = goes-by g (goal.at.loop-preserved g c).Joined-eq in
     elim c.if-not-goes.branch [
-      then-not-goes w ↦
-        rw (e, w.mem-is, w.kept-is, w.to-is)
-        (kept_move (omega arith) c.loop.invariant _ size (record { each = λ k. search rules }) _
-        (λ selected S. by selected S ∙ w.if-not-goes.true) w.move_bytes.ensures w.move_bytes.auto.mem)
+      | then-not-goes w ↦
+          rw (e, w.mem-is, w.kept-is, w.to-is)
+          (kept_move (omega arith) c.loop.invariant _ size (record { each = λ k. search rules }) _
+          (λ selected S. by selected S ∙ w.if-not-goes.true) w.move_bytes.ensures w.move_bytes.auto.mem)
       | else-not-goes w ↦
-        rw (e, w.mem-is, w.kept-is, w.to-is) (kept-skip (omega arith) c.loop.invariant _ size (λ selected S. by selected S ∙ w.if-not-goes.false))
+          rw (e, w.mem-is, w.kept-is, w.to-is) (kept-skip (omega arith) c.loop.invariant _ size (λ selected S. by selected S ∙ w.if-not-goes.false))
     ]
 
 pub set_count-requires : goal.set_count-requires

@@ -51,5 +51,5 @@ returns-clause-steps c =
 pub returns-clause-goes : goal.returns-clause-goes
 returns-clause-goes c =
     let fewer : length (entries_at c.self.inside.mem.now (c.self.inside.left - 1) (next_at c.self.inside.mem.now c.self.inside.at)) < length c.args.self.now =
-        rw (← c.self.view_is, entries_at-step c.self.inside.mem.now c.self.inside.left (omega arith) c.self.inside.at) (omega arith) in
+    rw (← c.self.view_is, entries_at-step c.self.inside.mem.now c.self.inside.left (omega arith) c.self.inside.at) (omega arith) in
     record { on = λ f. (tt, tt, rw c.word_at.ensures.0 fewer); keeps = tt; rests = λ f. tt }

@@ -7,7 +7,7 @@ use mathlib.Core.Bool.{true}
 use borrow.Author.Tests.{le-leb, ltb-false}
 use Rattle.refusals.specs.declared.Refusal.{Refusal}
 use Rattle.refusals.specs.declared.Refusal.TheVariants.{Unknown}
-use Rattle.refusals.specs.Refusals.{and_then, unless}
+use Rattle.refusals.specs.Refusals.{Result, and_then, unless}
 use Rattle.refusals.proofs.CauseLaws.{no-cause-head, unless-ok}
 use Rattle.paths.specs.declared.Descriptor.{Descriptor}
 use Rattle.paths.specs.Giving.{is_path, resolved, given}
@@ -24,7 +24,6 @@ use Rattle.table.proofs.CallLaws.{a-table}
 use Rattle.table.proofs.KeepLaws.{Keeps, acted-keeps, step-acted, same-table}
 use Rattle.link.specs.declared.Link.{Link}
 use Rattle.link.specs.Linking.{room_in, Numbering, run_in, carry_cause, carried, single_act}
-use Rattle.link.specs.declared.Sent.{Sent}
 use Rattle.link.specs.Sending.{Lent, lent}
 use Rattle.link.proofs.LinkLaws.{acted-carried}
 use Rattle.calls.specs.declared.Revoked.{Revoked}
@@ -127,21 +126,21 @@ insert-acted link l kind p cwd h =
 
 -- ---- by the promises
 
-module _ (link : Link) (l : Lent) (v : ℕ) {l' : Lent} {r : Sent} (S : SetsSwitches link l v l' r) (h : holds l.memory ≡ true) where
+module _ (link : Link) (l : Lent) (v : ℕ) {l' : Lent} {r : Result ℕ} (S : SetsSwitches link l v l' r) (h : holds l.memory ≡ true) where
   pub switches-held : holds l'.memory ≡ true
   switches-held = rw S.sends.memory (switches-acted link l v h).holding
 
   pub switches-keep : Keeps (table_of l.memory).marks (table_of l'.memory).marks
   switches-keep = rw S.sends.memory (acted-keeps h (switches-acted link l v h))
 
-module _ (link : Link) (l : Lent) (kind : ℕ) (p cwd : List ℕ) {l' : Lent} {r : Sent} (S : Inserts link l kind p cwd l' r) (h : holds l.memory ≡ true) where
+module _ (link : Link) (l : Lent) (kind : ℕ) (p cwd : List ℕ) {l' : Lent} {r : Result ℕ} (S : Inserts link l kind p cwd l' r) (h : holds l.memory ≡ true) where
   pub insert-held : holds l'.memory ≡ true
   insert-held = rw S.sends.memory (insert-acted link l kind p cwd h).holding
 
   pub insert-keeps : Keeps (table_of l.memory).marks (table_of l'.memory).marks
   insert-keeps = rw S.sends.memory (acted-keeps h (insert-acted link l kind p cwd h))
 
-module _ {call : Call} {link : Link} {l : Lent} {s : List ℕ} {a : About} {response : ℕ} {l' : Lent} {s' : List ℕ} {r : Asked}
+module _ {call : Call} {link : Link} {l : Lent} {s : List ℕ} {a : About} {response : ℕ} {l' : Lent} {s' : List ℕ} {r : Result Asked}
     (A : Asks call link l s a response l' s' r) (h : holds l.memory ≡ true) where
   pub ask-held : holds l'.memory ≡ true
   ask-held = rw A.sends.memory (ask-acted call link l s a response h).holding
@@ -149,7 +148,7 @@ module _ {call : Call} {link : Link} {l : Lent} {s : List ℕ} {a : About} {resp
   pub ask-keeps : Keeps (table_of l.memory).marks (table_of l'.memory).marks
   ask-keeps = rw A.sends.memory (acted-keeps h (ask-acted call link l s a response h))
 
-module _ {link : Link} {l : Lent} {a : About} {l' : Lent} {r : Revoked} (R : Revokes link l a l' r) (h : holds l.memory ≡ true) where
+module _ {link : Link} {l : Lent} {a : About} {l' : Lent} {r : Result Revoked} (R : Revokes link l a l' r) (h : holds l.memory ≡ true) where
   pub revoke-held : holds l'.memory ≡ true
   revoke-held = rw R.sends.memory (revoke-acted link l a h).holding
 

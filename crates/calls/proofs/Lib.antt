@@ -1,3 +1,4 @@
+pub mod TestLaws
 pub mod ChangeLaws
 pub mod AskLaws
 pub mod KeepLaws

@@ -14,7 +14,6 @@ use Rattle.table.specs.Tables.{Table}
 use Rattle.table.specs.Acts.{Act, insert, set_switches, act_overflows}
 use Rattle.table.specs.Calls.{table_in}
 use Rattle.link.specs.declared.Link.TheVariants.{Plain, Linked}
-use Rattle.link.specs.declared.Sent.{Sent}
 use Rattle.link.specs.Linking.{lacks_room, room_in, Numbering, unnumbered, after, numbering, lacks_run, run_in, used_up, carry_cause, carried}
 use Rattle.link.specs.Sending.{Lent, alone}
 use Rattle.link.specs.Steps.{Admits}
@@ -48,19 +47,19 @@ module _ (l : Lent) where
   unfolding revoke_call room_in run_in lacks_room lacks_run numbering first_cause unless and_then
   same-revoke a = refl
 
-pub switches-alone : (l : Lent) (v : ℕ) {l' : Lent} {r : Sent} → SetsSwitches Plain l v l' r → SetsSwitches Plain (alone l.memory) v (alone l'.memory) r
+pub switches-alone : (l : Lent) (v : ℕ) {l' : Lent} {r : Result ℕ} → SetsSwitches Plain l v l' r → SetsSwitches Plain (alone l.memory) v (alone l'.memory) r
 switches-alone l v S = does-alone (same-switches l v) S
 
-pub insert-alone : (l : Lent) (kind : ℕ) (p cwd : List ℕ) {l' : Lent} {r : Sent} → Inserts Plain l kind p cwd l' r → Inserts Plain (alone l.memory) kind p cwd (alone l'.memory) r
+pub insert-alone : (l : Lent) (kind : ℕ) (p cwd : List ℕ) {l' : Lent} {r : Result ℕ} → Inserts Plain l kind p cwd l' r → Inserts Plain (alone l.memory) kind p cwd (alone l'.memory) r
 insert-alone l kind p cwd I = does-alone (same-insert l kind p cwd) I
 
-pub ask-alone : {call : Call} {l : Lent} {s : List ℕ} {a : About} {response : ℕ} {l' : Lent} {s' : List ℕ} {r : Asked} → Asks call Plain l s a response l' s' r
+pub ask-alone : {call : Call} {l : Lent} {s : List ℕ} {a : About} {response : ℕ} {l' : Lent} {s' : List ℕ} {r : Result Asked} → Asks call Plain l s a response l' s' r
     → Asks call Plain (alone l.memory) s a response (alone l'.memory) s' r
 ask-alone {call} {l} {s} {a} {response} A =
     let e = same-ask l call s a response in
     record { answers = rw e at A.answers; sends = rw e at (sends-alone A.sends) }
 
-pub revoke-alone : {l : Lent} {a : About} {l' : Lent} {r : Revoked} → Revokes Plain l a l' r → Revokes Plain (alone l.memory) a (alone l'.memory) r
+pub revoke-alone : {l : Lent} {a : About} {l' : Lent} {r : Result Revoked} → Revokes Plain l a l' r → Revokes Plain (alone l.memory) a (alone l'.memory) r
 revoke-alone {l} {a} R = let e = same-revoke l a in record { answer = rw e at R.answer; sends = rw e at (sends-alone R.sends) }
 
 -- ---- a linked call

@@ -1,5 +1,5 @@
 -- A call after a look at what it would ask: it asks exactly where the look says so, whatever the operator answers.
-use Rattle.std.specs.Prelude.{Ok, Err}
+use Rattle.std.specs.Prelude.{Some, Ok, Err}
 use Prim.Native.Nat.{ℕ}
 use mathlib.Core.Path.{◌≡◌, refl}
 use mathlib.Core.List.{List}
@@ -17,7 +17,6 @@ use Rattle.link.proofs.LinkLaws.{room-long, run-known}
 use Rattle.link.specs.Sending.{Lent}
 use Rattle.table.proofs.CallLaws.{no_table, a-table}
 use Rattle.deciding.specs.declared.PromptResponse.{PromptResponse}
-use Rattle.deciding.specs.declared.ResponseRead.TheVariants.{Response}
 use Rattle.deciding.specs.declared.Call.{Call}
 use Rattle.deciding.specs.Decisions.{response_of, known_response, Decision, decide}
 use Rattle.deciding.specs.Questions.{text_space, would_ask, question_call}
@@ -31,7 +30,7 @@ pub data Follows (numbers : Numbering) (t : Table) : Result Bool → Result Deci
   goes : (decision : Decision) → Follows numbers t (Ok decision.asked) (carried_out numbers t decision)
 
 module _ (call : Call) (link : Link) (l : Lent) (s : List ℕ) (a : About) (response : ℕ) {known : PromptResponse}
-    (A : Admits 1 link l.words) (e : response_of response ≡ Response known) where
+    (A : Admits 1 link l.words) (e : response_of response ≡ Some known) where
   follows-given : (numbers : Numbering) (t : Table) (g : Result Query)
       → Follows numbers t (and_then g (λ q. Ok (would_ask call t q))) (and_then g (λ q. carried_out numbers t (decide call t q known)))
   unfolding and_then

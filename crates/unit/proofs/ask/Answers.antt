@@ -1,23 +1,27 @@
 -- `ask` meets its contract: 12, 3, or the decision.
-use mathlib.Core.Path.{sym, ◌∙◌}
-use Rattle.unit.proofs.UnitLaws.{asks-no-state, asks-no-response, asks-decided}
+use Rattle.std.proofs.lemmas.Result.{err_from_is_err_and}
+use Rattle.refusals.specs.Refusals.{and_then}
+use Rattle.unit.specs.Calls.{unit_call, state_after}
 use Rattle.unit.proofs.ask.Goals as goal
 
-pub returns-in_default : goal.returns-in_default
-returns-in_default c =
-    asks-no-state _ _ _ _ (sym c.state_of.ensures ∙ c.in_default.is) c.refused.ensures
+pub returns-in_err-found : goal.returns-in_err-found
+unfolding unit_call and_then state_after
+returns-in_err-found c =
+    let p = err_from_is_err_and c.from_residual.result c.from_residual.ensures.1 in
+    let e = c.in_err-found.ensures in
+    rw (p.1, p.2) (record { answer = rw (← e); state = rw (← e) })
 
-pub returns-in_default-response_of : goal.returns-in_default-response_of
-returns-in_default-response_of c =
-    asks-no-response _ _ _ _
-    (sym c.state_of.ensures ∙ c.in-State.is)
-    (sym c.response_of.ensures ∙ c.in_default-response_of.is)
-    c.refused-in_default-response_of.ensures
+pub returns-in_err-known : goal.returns-in_err-known
+unfolding unit_call and_then state_after
+returns-in_err-known c =
+    let p = err_from_is_err_and c.from_residual-in_err-known.result c.from_residual-in_err-known.ensures.1 in
+    let e = c.in_ok-found.ensures in
+    let f = c.in_err-known.ensures in
+    rw (p.1, p.2) (record { answer = rw (← e, ← f); state = rw (← e, ← f) })
 
 pub returns : goal.returns
+unfolding unit_call and_then state_after
 returns c =
-    asks-decided _ _ _ _
-    (sym c.state_of.ensures ∙ c.in-State.is)
-    (sym c.response_of.ensures ∙ c.in-Response.is)
-    c.decide-decided.ensures
-    c.state_number.ensures
+    let e = c.in_ok-found.ensures in
+    let f = c.in_ok-known.ensures in
+    record { answer = rw (← e, ← f, c.decide-decided.ensures); state = rw (← e, ← f, c.from-2.ensures, c.from.ensures, c.decide-decided.ensures) }

@@ -1,11 +1,18 @@
 -- `revoke` meets its contract: 12, or Granted becomes Prompt.
-use mathlib.Core.Path.{sym, ◌∙◌}
-use Rattle.unit.proofs.UnitLaws.{revokes-no-state, revokes-known}
+use Rattle.std.proofs.lemmas.Result.{err_from_is_err_and}
+use Rattle.refusals.specs.Refusals.{and_then}
+use Rattle.unit.specs.Calls.{revoke_unit_call, answer_in, state_after}
 use Rattle.unit.proofs.revoke.Goals as goal
 
-pub returns-in_default : goal.returns-in_default
-returns-in_default c = revokes-no-state _ (sym c.state_of.ensures ∙ c.in_default.is)
+pub returns-in_err-found : goal.returns-in_err-found
+unfolding revoke_unit_call and_then answer_in state_after
+returns-in_err-found c =
+    let p = err_from_is_err_and c.from_residual.result c.from_residual.ensures.1 in
+    let e = c.in_err-found.ensures in
+    rw (p.1, p.2) (record { answer = rw (← e); state = rw (← e) })
 
 pub returns : goal.returns
+unfolding revoke_unit_call and_then answer_in state_after
 returns c =
-    revokes-known _ (sym c.state_of.ensures ∙ c.in-State.is) c.revoked-left.ensures c.state_number.ensures
+    let e = c.in_ok-found.ensures in
+    record { answer = rw (← e, c.revoked-left.ensures); state = rw (← e, c.from-2.ensures, c.from.ensures, c.revoked-left.ensures) }

@@ -1,44 +1,54 @@
 -- `ask` meets its contract: the first cause is found, or the call is settled and its text is written.
-use Prim.Native.Nat.{ℕ}
-use mathlib.Core.Path.{◌≡◌, sym, ◌∙◌}
-use mathlib.Core.List.{List}
-use mathlib.Core.Bool.{Bool, false}
+use mathlib.Core.Path.{refl, sym, ◌∙◌}
 use native.Mathlib.Omega.{arith}
-use Rattle.link.specs.declared.Link.{Link}
-use Rattle.link.specs.Linking.{lacks_room, lacks_run}
-use Rattle.link.specs.Steps.{Admits}
+use lib.Seq.{length-take-le}
+use Rattle.std.proofs.lemmas.Result.{err_from_is_err_and}
 use Rattle.link.proofs.LinkLaws.{link-ready}
 use Rattle.deciding.proofs.QuestionLaws.{text-room}
-use Rattle.calls.proofs.AskLaws.{ask-no-table, ask-no-space, ask-short, ask-unlinked, ask-unknown, ask-known, asks-refused, asks-stopped, asks-finished, settled-stands}
+use Rattle.calls.proofs.TestLaws.{admitted}
+use Rattle.calls.proofs.AskLaws.{ask-no-table, ask-no-space, ask-barred, ask-unknown, ask-known, asks-refused, asks-stopped, asks-finished, settled-stands}
 use Rattle.calls.proofs.asking.ask.Goals as goal
 
--- what the tests of the link say
-admitted : {link : Link} {w : List ℕ} {room run : Bool} → room ≡ lacks_room 1 link w → room ≡ false → run ≡ lacks_run link → run ≡ false → Admits 1 link w
-admitted e f g h = record { roomy = sym e ∙ f; run = sym g ∙ h }
-
 pub returns-then-not-holds_table : goal.returns-then-not-holds_table
-returns-then-not-holds_table c = asks-refused (ask-no-table _ _ _ _ _ _ (sym c.holds_table.ensures ∙ c.if-not-holds_table.true)) c.refused.ensures
+returns-then-not-holds_table c = asks-refused (ask-no-table _ _ _ _ _ _ (sym c.holds_table.ensures ∙ c.if-not-holds_table.true))
 
 pub returns-then-space-lt-TEXT_BYTES : goal.returns-then-space-lt-TEXT_BYTES
-returns-then-space-lt-TEXT_BYTES c = asks-refused (ask-no-space _ _ _ _ _ _ (sym c.holds_table.ensures ∙ c.if-not-holds_table.false) (omega arith)) c.refused-then-space-lt-TEXT_BYTES.ensures
+returns-then-space-lt-TEXT_BYTES c =
+    asks-refused (ask-no-space _ _ _ _ _ _ (sym c.holds_table.ensures ∙ c.if-not-holds_table.false) (omega arith))
 
-pub returns-then-lacks_room : goal.returns-then-lacks_room
-returns-then-lacks_room c = asks-refused (ask-short _ _ _ _ _ _ (sym c.holds_table.ensures ∙ c.if-not-holds_table.false) (omega arith) (sym c.lacks_room.ensures ∙ c.if-lacks_room.true)) c.refused-then-lacks_room.ensures
+pub returns-in_err-admit : goal.returns-in_err-admit
+returns-in_err-admit c =
+    let p = err_from_is_err_and c.from_residual.result c.from_residual.ensures.1 in
+    rw (p.1, p.2)
+    (asks-refused (ask-barred _ _ _ _ _ _ (sym c.holds_table.ensures ∙ c.if-not-holds_table.false) (omega arith) (sym c.in_err-admit.ensures)))
 
-pub returns-then-lacks_run : goal.returns-then-lacks_run
-returns-then-lacks_run c = asks-refused (ask-unlinked _ _ _ _ _ _ (sym c.holds_table.ensures ∙ c.if-not-holds_table.false) (omega arith) (sym c.lacks_room.ensures ∙ c.if-lacks_room.false) (sym c.lacks_run.ensures ∙ c.if-lacks_run.true)) c.refused-then-lacks_run.ensures
-
-pub returns-in_default : goal.returns-in_default
-returns-in_default c = asks-refused (ask-unknown _ _ _ _ _ _ (sym c.holds_table.ensures ∙ c.if-not-holds_table.false) (omega arith) (admitted c.lacks_room.ensures c.if-lacks_room.false c.lacks_run.ensures c.if-lacks_run.false) (sym c.response_of.ensures ∙ c.in_default.is)) c.refused-in_default.ensures
+pub returns-in_err-known : goal.returns-in_err-known
+returns-in_err-known c =
+    let p = err_from_is_err_and c.from_residual-in_err-known.result c.from_residual-in_err-known.ensures.1 in
+    rw (p.1, p.2)
+    (asks-refused (ask-unknown _ _ _ _ _ _ (sym c.holds_table.ensures ∙ c.if-not-holds_table.false) (omega arith)
+    (admitted _ _ _ (sym c.in_ok-admit.ensures)) (sym c.in_err-known.ensures)))
 
 pub settle-requires : goal.settle-requires
-settle-requires c = (sym c.holds_table.ensures ∙ c.if-not-holds_table.false, link-ready (admitted c.lacks_room.ensures c.if-lacks_room.false c.lacks_run.ensures c.if-lacks_run.false))
+settle-requires c = (sym c.holds_table.ensures ∙ c.if-not-holds_table.false, link-ready (admitted _ _ _ (sym c.in_ok-admit.ensures)))
+
+pub returns-in_err-settled : goal.returns-in_err-settled
+returns-in_err-settled c =
+    let p = err_from_is_err_and c.from_residual-in_err-settled.result c.from_residual-in_err-settled.ensures.1 in
+    rw (p.1, p.2)
+    (asks-stopped (ask-known _ _ _ _ _ _ (sym c.holds_table.ensures ∙ c.if-not-holds_table.false) (omega (arith, c.if-space-lt-TEXT_BYTES.false))
+    (admitted _ _ _ (sym c.in_ok-admit.ensures)) _ (sym c.in_ok-known.ensures)) c.in_err-settled.ensures refl)
+
+pub slice_bounds-resolved-end : goal.slice_bounds-resolved-end
+slice_bounds-resolved-end c = (settled-stands c.in_ok-settled.ensures refl).room
+
+pub slice_bounds-finish-end : goal.slice_bounds-finish-end
+slice_bounds-finish-end c = sym (length-take-le _ _ (settled-stands c.in_ok-settled.ensures refl).room)
 
 pub finish-requires : goal.finish-requires
-finish-requires c = text-room (omega arith) (settled-stands c.settle.ensures c.in-Decided.is)
+finish-requires c = text-room (omega arith) (settled-stands c.in_ok-settled.ensures refl)
 
-pub returns-in-Refused : goal.returns-in-Refused
-returns-in-Refused c = asks-stopped (ask-known _ _ _ _ _ _ (sym c.holds_table.ensures ∙ c.if-not-holds_table.false) (omega (arith, c.if-space-lt-TEXT_BYTES.false)) (admitted c.lacks_room.ensures c.if-lacks_room.false c.lacks_run.ensures c.if-lacks_run.false) _ (sym c.response_of.ensures ∙ c.in-Response.is)) c.settle.ensures c.in-Refused.is c.refused-in-Refused.ensures
-
-pub returns-in-Decided : goal.returns-in-Decided
-returns-in-Decided c = asks-finished (ask-known _ _ _ _ _ _ (sym c.holds_table.ensures ∙ c.if-not-holds_table.false) (omega (arith, c.if-space-lt-TEXT_BYTES.false)) (admitted c.lacks_room.ensures c.if-lacks_room.false c.lacks_run.ensures c.if-lacks_run.false) _ (sym c.response_of.ensures ∙ c.in-Response.is)) c.settle.ensures c.in-Decided.is c.finish.ensures
+pub returns : goal.returns
+returns c =
+    asks-finished (ask-known _ _ _ _ _ _ (sym c.holds_table.ensures ∙ c.if-not-holds_table.false) (omega (arith, c.if-space-lt-TEXT_BYTES.false))
+    (admitted _ _ _ (sym c.in_ok-admit.ensures)) _ (sym c.in_ok-known.ensures)) c.in_ok-settled.ensures refl c.finish.ensures

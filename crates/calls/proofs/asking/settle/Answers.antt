@@ -1,13 +1,20 @@
 -- `settle` meets its contract: what is given is refused, or what it resolves to is settled.
+use mathlib.Core.Path.{refl}
+use Rattle.std.proofs.lemmas.Result.{err_from_is_err_and}
 use Rattle.paths.proofs.GivingLaws.{gives-stands}
 use Rattle.calls.proofs.AskLaws.{settles-refused, settles-query}
 use Rattle.calls.proofs.asking.settle.Goals as goal
 
+pub shared_ref_as_front-settle_query : goal.shared_ref_as_front-settle_query
+shared_ref_as_front-settle_query c = (gives-stands c.in_ok-size.ensures refl).short
+
 pub settle_query-requires : goal.settle_query-requires
-settle_query-requires c = let S = gives-stands c.resolve_given.ensures c.in-Resolved.is in record { mem_value = c.requires; n_in_bounds = (S.room, S.fits) }
+settle_query-requires c = record { mem_value = c.requires; resolved_value = (gives-stands c.in_ok-size.ensures refl).fits }
 
-pub returns-in-Refused : goal.returns-in-Refused
-returns-in-Refused c = settles-refused c.resolve_given.ensures c.in-Refused.is
+pub returns-in_err-size : goal.returns-in_err-size
+returns-in_err-size c =
+    let p = err_from_is_err_and c.from_residual.result c.from_residual.ensures.1 in
+    rw (p.1, p.2) (settles-refused c.in_err-size.ensures refl)
 
-pub returns-in-Resolved : goal.returns-in-Resolved
-returns-in-Resolved c = settles-query c.resolve_given.ensures c.in-Resolved.is c.settle_query.ensures
+pub returns : goal.returns
+returns c = settles-query c.in_ok-size.ensures refl c.settle_query.ensures

@@ -31,7 +31,7 @@ use Rattle.link.specs.declared.Link.{Link}
 use Rattle.link.specs.Linking.{admit, room_in, Numbering, numbering, run_in}
 use Rattle.link.specs.Sending.{Lent, Sends}
 use Rattle.link.specs.Steps.{Records, Admits, cause_on, Performs}
-use Rattle.link.proofs.LinkLaws.{room-long, run-known, acted-carried}
+use Rattle.link.proofs.LinkLaws.{not_admitted, room-long, run-known, acted-carried}
 use Rattle.link.proofs.SendingLaws.{no-changes, records-none, sends-nothing, sends-recorded}
 use Rattle.walk.specs.declared.PermissionState.{PermissionState}
 use Rattle.walk.specs.declared.AllowPartial.TheVariants.{TreatAsPartialGranted}
@@ -70,7 +70,6 @@ use Rattle.calls.specs.Steps.{SettlesQuery, RevokesQuery, Finishes}
 use Rattle.deciding.proofs.TextLaws.{length-text}
 use Rattle.deciding.proofs.QuestionLaws.{text_same}
 use Rattle.deciding.proofs.FittingLaws.{revoke-fits}
-use Rattle.calls.proofs.TestLaws.{barred}
 
 -- ---- a decision that is carried out
 
@@ -244,9 +243,9 @@ module _ (call : Call) (link : Link) (l : Lent) (s : List ℕ) (a : About) (resp
     ask-no-space short = rw (a-table l.memory h, lt-ltb _ _ short)
 
     module _ (space : text_bytes ≤ length s) where
-      pub ask-barred : {cause : Refusal} → admit 1 link l.words ≡ Err cause → ask_call call link l s a response ≡ Err cause
+      pub ask-barred : {cause : Refusal} → Err cause ≡ admit 1 link l.words → ask_call call link l s a response ≡ Err cause
       unfolding ask_call and_then text_space first_cause unless
-      ask-barred e = rw (a-table l.memory h, le-ltb _ _ space) (barred _ _ _ _ _ e)
+      ask-barred e = rw (a-table l.memory h, le-ltb _ _ space) (not_admitted _ _ _ _ _ e)
 
       module _ (A : Admits 1 link l.words) where
         pub ask-unknown : {cause : Refusal} → known_response (response_of response) ≡ Err cause → ask_call call link l s a response ≡ Err cause
@@ -393,9 +392,9 @@ module _ (link : Link) (l : Lent) (a : About) where
   revoke-no-table h = rw (no_table l.memory h)
 
   module _ (h : holds l.memory ≡ true) where
-    pub revoke-barred : {cause : Refusal} → admit 1 link l.words ≡ Err cause → revoke_call link l a ≡ Err cause
+    pub revoke-barred : {cause : Refusal} → Err cause ≡ admit 1 link l.words → revoke_call link l a ≡ Err cause
     unfolding revoke_call and_then
-    revoke-barred e = rw (a-table l.memory h) (barred _ _ _ _ _ e)
+    revoke-barred e = rw (a-table l.memory h) (not_admitted _ _ _ _ _ e)
 
     module _ (A : Admits 1 link l.words) where
       pub revoke-ungiven : {cause : Refusal} → given a.descriptor a.given a.cwd ≡ Err cause → revoke_call link l a ≡ Err cause

@@ -19,10 +19,9 @@ use Rattle.table.proofs.CallLaws.{no_table, a-table}
 use Rattle.link.specs.declared.Link.{Link}
 use Rattle.link.specs.Linking.{numbering, admit, carried}
 use Rattle.link.specs.Steps.{Admits}
-use Rattle.link.proofs.LinkLaws.{room-long, run-known}
+use Rattle.link.proofs.LinkLaws.{not_admitted, room-long, run-known}
 use Rattle.link.specs.Sending.{Lent}
 use Rattle.calls.specs.Changes.{known_switches, switches_call, insert_call}
-use Rattle.calls.proofs.TestLaws.{barred}
 
 -- ---- switches
 
@@ -32,9 +31,9 @@ module _ (link : Link) (l : Lent) (v : ℕ) where
   switches-no-table h = rw (no_table l.memory h)
 
   module _ (h : holds l.memory ≡ true) where
-    pub switches-barred : {cause : Refusal} → admit 1 link l.words ≡ Err cause → switches_call link l v ≡ Err cause
+    pub switches-barred : {cause : Refusal} → Err cause ≡ admit 1 link l.words → switches_call link l v ≡ Err cause
     unfolding switches_call and_then
-    switches-barred e = rw (a-table l.memory h) (barred _ _ _ _ _ e)
+    switches-barred e = rw (a-table l.memory h) (not_admitted _ _ _ _ _ e)
 
     module _ (A : Admits 1 link l.words) where
       pub switches-unknown : max_switches < v → switches_call link l v ≡ Err Unknown
@@ -53,9 +52,9 @@ module _ (link : Link) (l : Lent) (kind : ℕ) (p cwd : List ℕ) where
   insert-no-table h = rw (no_table l.memory h)
 
   module _ (h : holds l.memory ≡ true) where
-    pub insert-barred : {cause : Refusal} → admit 1 link l.words ≡ Err cause → insert_call link l kind p cwd ≡ Err cause
+    pub insert-barred : {cause : Refusal} → Err cause ≡ admit 1 link l.words → insert_call link l kind p cwd ≡ Err cause
     unfolding insert_call and_then
-    insert-barred e = rw (a-table l.memory h) (barred _ _ _ _ _ e)
+    insert-barred e = rw (a-table l.memory h) (not_admitted _ _ _ _ _ e)
 
     module _ (A : Admits 1 link l.words) where
       pub insert-unknown : {cause : Refusal} → known_kind (kind_of kind) ≡ Err cause → insert_call link l kind p cwd ≡ Err cause

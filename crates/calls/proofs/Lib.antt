@@ -1,4 +1,3 @@
-pub mod TestLaws
 pub mod ChangeLaws
 pub mod AskLaws
 pub mod KeepLaws

@@ -3,9 +3,8 @@ use mathlib.Core.Path.{refl, sym, ◌∙◌}
 use native.Mathlib.Omega.{arith}
 use lib.Seq.{length-take-le}
 use Rattle.std.proofs.lemmas.Result.{err_from_is_err_and}
-use Rattle.link.proofs.LinkLaws.{link-ready}
+use Rattle.link.proofs.LinkLaws.{admitted, link-ready}
 use Rattle.deciding.proofs.QuestionLaws.{text-room}
-use Rattle.calls.proofs.TestLaws.{admitted}
 use Rattle.calls.proofs.AskLaws.{ask-no-table, ask-no-space, ask-barred, ask-unknown, ask-known, asks-refused, asks-stopped, asks-finished, settled-stands}
 use Rattle.calls.proofs.asking.ask.Goals as goal
 
@@ -20,24 +19,24 @@ pub returns-in_err-admit : goal.returns-in_err-admit
 returns-in_err-admit c =
     let p = err_from_is_err_and c.from_residual.result c.from_residual.ensures.1 in
     rw (p.1, p.2)
-    (asks-refused (ask-barred _ _ _ _ _ _ (sym c.holds_table.ensures ∙ c.if-not-holds_table.false) (omega arith) (sym c.in_err-admit.ensures)))
+    (asks-refused (ask-barred _ _ _ _ _ _ (sym c.holds_table.ensures ∙ c.if-not-holds_table.false) (omega arith) c.in_err-admit.ensures))
 
 pub returns-in_err-known : goal.returns-in_err-known
 returns-in_err-known c =
     let p = err_from_is_err_and c.from_residual-in_err-known.result c.from_residual-in_err-known.ensures.1 in
     rw (p.1, p.2)
     (asks-refused (ask-unknown _ _ _ _ _ _ (sym c.holds_table.ensures ∙ c.if-not-holds_table.false) (omega arith)
-    (admitted _ _ _ (sym c.in_ok-admit.ensures)) (sym c.in_err-known.ensures)))
+    (admitted _ _ _ c.in_ok-admit.ensures) (sym c.in_err-known.ensures)))
 
 pub settle-requires : goal.settle-requires
-settle-requires c = (sym c.holds_table.ensures ∙ c.if-not-holds_table.false, link-ready (admitted _ _ _ (sym c.in_ok-admit.ensures)))
+settle-requires c = (sym c.holds_table.ensures ∙ c.if-not-holds_table.false, link-ready (admitted _ _ _ c.in_ok-admit.ensures))
 
 pub returns-in_err-settled : goal.returns-in_err-settled
 returns-in_err-settled c =
     let p = err_from_is_err_and c.from_residual-in_err-settled.result c.from_residual-in_err-settled.ensures.1 in
     rw (p.1, p.2)
     (asks-stopped (ask-known _ _ _ _ _ _ (sym c.holds_table.ensures ∙ c.if-not-holds_table.false) (omega (arith, c.if-space-lt-TEXT_BYTES.false))
-    (admitted _ _ _ (sym c.in_ok-admit.ensures)) _ (sym c.in_ok-known.ensures)) c.in_err-settled.ensures refl)
+    (admitted _ _ _ c.in_ok-admit.ensures) _ (sym c.in_ok-known.ensures)) c.in_err-settled.ensures refl)
 
 pub slice_bounds-resolved-end : goal.slice_bounds-resolved-end
 slice_bounds-resolved-end c = (settled-stands c.in_ok-settled.ensures refl).room
@@ -51,4 +50,4 @@ finish-requires c = text-room (omega arith) (settled-stands c.in_ok-settled.ensu
 pub returns : goal.returns
 returns c =
     asks-finished (ask-known _ _ _ _ _ _ (sym c.holds_table.ensures ∙ c.if-not-holds_table.false) (omega (arith, c.if-space-lt-TEXT_BYTES.false))
-    (admitted _ _ _ (sym c.in_ok-admit.ensures)) _ (sym c.in_ok-known.ensures)) c.in_ok-settled.ensures refl c.finish.ensures
+    (admitted _ _ _ c.in_ok-admit.ensures) _ (sym c.in_ok-known.ensures)) c.in_ok-settled.ensures refl c.finish.ensures

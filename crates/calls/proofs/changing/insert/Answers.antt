@@ -7,9 +7,8 @@ use Rattle.paths.proofs.GivingLaws.{gives-refused, gives-stands}
 use Rattle.table.specs.Tables.{is_entry}
 use Rattle.table.specs.Acts.{is_act}
 use Rattle.table.specs.Carrying.{act_of, fits}
-use Rattle.link.proofs.LinkLaws.{link-ready}
+use Rattle.link.proofs.LinkLaws.{admitted, link-ready}
 use Rattle.link.proofs.SendingLaws.{does-refuse, does-perform}
-use Rattle.calls.proofs.TestLaws.{admitted}
 use Rattle.calls.proofs.ChangeLaws.{insert-no-table, insert-barred, insert-unknown, insert-refused, insert-known}
 use Rattle.calls.proofs.changing.insert.Goals as goal
 
@@ -19,20 +18,20 @@ returns-then-not-holds_table c = does-refuse (insert-no-table _ _ _ _ _ (sym c.h
 pub returns-in_err-admit : goal.returns-in_err-admit
 returns-in_err-admit c =
     let p = err_from_is_err_and c.from_residual.result c.from_residual.ensures.1 in
-    rw (p.1, p.2) (does-refuse (insert-barred _ _ _ _ _ (sym c.holds_table.ensures ∙ c.if-not-holds_table.false) (sym c.in_err-admit.ensures)))
+    rw (p.1, p.2) (does-refuse (insert-barred _ _ _ _ _ (sym c.holds_table.ensures ∙ c.if-not-holds_table.false) c.in_err-admit.ensures))
 
 pub returns-in_err-known : goal.returns-in_err-known
 returns-in_err-known c =
     let p = err_from_is_err_and c.from_residual-in_err-known.result c.from_residual-in_err-known.ensures.1 in
     rw (p.1, p.2)
-    (does-refuse (insert-unknown _ _ _ _ _ (sym c.holds_table.ensures ∙ c.if-not-holds_table.false) (admitted _ _ _ (sym c.in_ok-admit.ensures))
+    (does-refuse (insert-unknown _ _ _ _ _ (sym c.holds_table.ensures ∙ c.if-not-holds_table.false) (admitted _ _ _ c.in_ok-admit.ensures)
     (sym c.in_err-known.ensures)))
 
 pub returns-in_err-size : goal.returns-in_err-size
 returns-in_err-size c =
     let p = err_from_is_err_and c.from_residual-in_err-size.result c.from_residual-in_err-size.ensures.1 in
     rw (p.1, p.2)
-    (does-refuse (insert-refused _ _ _ _ _ (sym c.holds_table.ensures ∙ c.if-not-holds_table.false) (admitted _ _ _ (sym c.in_ok-admit.ensures))
+    (does-refuse (insert-refused _ _ _ _ _ (sym c.holds_table.ensures ∙ c.if-not-holds_table.false) (admitted _ _ _ c.in_ok-admit.ensures)
     (sym c.in_ok-known.ensures) (gives-refused c.in_err-size.ensures refl)))
 
 pub slice_bounds-space-end : goal.slice_bounds-space-end
@@ -45,12 +44,12 @@ pub perform-requires : goal.perform-requires
 unfolding act_of fits is_act is_entry query_of is_query
 perform-requires c =
     (sym c.holds_table.ensures ∙ c.if-not-holds_table.false, (gives-stands c.in_ok-size.ensures refl).fits,
-    link-ready (admitted _ _ _ (sym c.in_ok-admit.ensures)))
+    link-ready (admitted _ _ _ c.in_ok-admit.ensures))
 
 pub returns : goal.returns
 unfolding act_of
 returns c =
     does-perform
-    (insert-known _ _ _ _ _ (sym c.holds_table.ensures ∙ c.if-not-holds_table.false) (admitted _ _ _ (sym c.in_ok-admit.ensures)) (sym c.in_ok-known.ensures) _
+    (insert-known _ _ _ _ _ (sym c.holds_table.ensures ∙ c.if-not-holds_table.false) (admitted _ _ _ c.in_ok-admit.ensures) (sym c.in_ok-known.ensures) _
     (gives-stands c.in_ok-size.ensures refl).query)
     c.perform.ensures

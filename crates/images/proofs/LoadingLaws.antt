@@ -1,6 +1,7 @@
 -- Laws of loading a table: entries read and written one after the other.
 use Rattle.refusals.proofs.CauseLaws.{Some-injective}
-use Rattle.std.specs.Prelude.{Option, None, Some}
+use Rattle.std.specs.Prelude.{Option, None, Some, IsSome}
+use Rattle.std.proofs.Common.{rules}
 use Prim.Native.Nat.{ℕ, ◌+◌, ◌-◌, ◌≤◌, ◌<◌}
 use mathlib.Core.Path.{◌≡◌, refl, sym, ap, ◌∙◌}
 use mathlib.Core.List.{List, [], ◌∷◌, ◌++◌, append-nil}
@@ -9,7 +10,6 @@ use native.Mathlib.Omega.{arith}
 use lib.ListN.{length, take, drop, length-append}
 use lib.Seq.{take_at}
 use Rattle.paths.specs.Copying.{begun, overwrite, Appends}
-use Rattle.table.specs.declared.Kind.{Kind}
 use Rattle.table.specs.Entries.{Entry}
 use Rattle.table.specs.Memory.{table_head, entry_head, table_bytes, head_bytes, encode_entry, encode_all}
 use Rattle.table.proofs.TableLaws.{valid-parts}
@@ -87,8 +87,9 @@ path-stands {t = t} E s e =
     }
 
 module _ {ws : List ℕ} {es : List Entry} {m m' : List ℕ} {from at count done : ℕ} (L : Loading ws es m m' from at count done) where
-  pub loading-never : done < count → None ≡ entry_answer from (read_entry (drop from ws)) → ⊥
-  loading-never h e = never (sym (entries-stop count done (drop from ws) h (told-nothing from _ e)) ∙ L.reads)
+  pub loading-some : done < count → {r : Option EntryRead} → r ≡ entry_answer from (read_entry (drop from ws)) → IsSome r
+  loading-some h {r = Some t} e = search rules
+  loading-some h {r = None} e = absurd (never (sym (entries-stop count done (drop from ws) h (told-nothing from _ e)) ∙ L.reads))
 
   module _ {t : EntryRead} (h : done < count) (E : Told ws from t) where
     here : Split E.entry (read_entries (count - (done + 1)) (drop t.end ws)) L.rest

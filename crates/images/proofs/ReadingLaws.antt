@@ -1,7 +1,7 @@
 -- Laws of reading an image: the answer at each way out of the code.
 use Rattle.refusals.proofs.CauseLaws.{Some-injective}
 use Rattle.std.specs.Prelude.{Option, None, Some}
-use Prim.Native.Nat.{ℕ, zero, suc, ◌+◌, ◌-◌, ◌*◌, ◌/◌, ◌≤◌, ◌<◌}
+use Prim.Native.Nat.{ℕ, suc, ◌+◌, ◌-◌, ◌*◌, ◌≤◌, ◌<◌}
 use mathlib.Core.Path.{◌≡◌, refl, sym, ap, ◌∙◌}
 use mathlib.Core.List.{List, [], ◌∷◌}
 use mathlib.Core.Bool.{Bool, true, false, ◌&&◌, cond}
@@ -23,7 +23,7 @@ use Rattle.table.proofs.BitLaws.{marked-small}
 use Rattle.records.specs.declared.PathRead.{PathRead}
 use Rattle.records.specs.declared.words.WordRead.{WordRead}
 use Rattle.records.specs.declared.words.Front.{Front}
-use Rattle.records.specs.Records.{act_unit, number_bits, path_words, Read, bytes_from, if_resolved}
+use Rattle.records.specs.Records.{number_bits, path_words, Read, bytes_from, if_resolved}
 use Rattle.records.specs.Words.{first_word, read_at, front_at}
 use Rattle.records.specs.Steps.{run_of, path_answer, path_into, ReadsPath}
 use Rattle.records.proofs.WordLaws.{from_place, no_word, Stands, stands, of-run, run_alone, front-headed}
@@ -31,30 +31,7 @@ use Rattle.records.proofs.RecordLaws.{path-short}
 use Rattle.records.proofs.ReadingLaws.{no-run-word}
 use Rattle.images.specs.declared.EntryRead.{EntryRead}
 use Rattle.images.specs.declared.ImageRead.{ImageRead}
-use Rattle.images.specs.Images.{
-  Image,
-  number_kind,
-  table_kind,
-  entry_kind,
-  entry_words,
-  is_number_word,
-  is_table_word,
-  switches_bits,
-  marks_bits,
-  count_bits,
-  kind_bits,
-  size_bits,
-  is_entry_word,
-  with_kind,
-  read_entry,
-  with_entry,
-  then_entries,
-  read_entries,
-  image_if,
-  with_entries,
-  read_table,
-  read_image,
-}
+use Rattle.images.specs.Images.{Image, entry_words, is_number_word, is_table_word, switches_bits, marks_bits, count_bits, kind_bits, size_bits, is_entry_word, with_kind, read_entry, with_entry, then_entries, read_entries, image_if, with_entries, read_table, read_image}
 use Rattle.images.specs.Steps.{entry_answer, entry_into, ReadsEntry, is_end, are_entries, image_answer, IsRead}
 use Rattle.images.proofs.WrittenLaws.{entry-written, entries-written}
 

@@ -2,19 +2,16 @@
 use Prim.Native.Nat.{ℕ, ◌+◌, ◌≤◌}
 use mathlib.Core.Path.{◌≡◌, refl, sym, ap, ◌∙◌}
 use mathlib.Core.List.{List, [], ◌∷◌}
-use mathlib.Core.Bool.{true, false}
+use mathlib.Core.Bool.{true}
 use native.Mathlib.Omega.{arith}
 use lib.ListN.{length, set}
 use Rattle.paths.specs.Copying.{overwrite, begun, Appends}
 use Rattle.paths.specs.Resolving.{max_path}
-use Rattle.table.specs.declared.Cursor.{Cursor}
 use Rattle.table.specs.Entries.{Entry}
-use Rattle.table.specs.Tables.{is_entry}
+use Rattle.table.specs.Tables.{Table, is_entry}
 use Rattle.table.specs.Memory.{table_of, holds}
-use Rattle.table.specs.Reading.{entries_from, is_at_entry, entry_in, first_entry, next_entry, InList, Reads}
 use Rattle.table.proofs.Overwrites.{over-sets, over-above, appends-none, appends-as, appends-more}
 use Rattle.table.proofs.Puts.{valid-of}
-use Rattle.table.proofs.ReadingLaws.{first-in, first-from, from-entry, from_end, next-in, entry_read}
 use Rattle.records.specs.Steps.{words_for}
 use Rattle.records.proofs.RecordLaws.{path-short}
 use Rattle.records.proofs.ReadingLaws.{over-start}
@@ -26,98 +23,72 @@ use Rattle.images.proofs.ImageLaws.{entry_length, size-more, few_words}
 pub one-before : (m : List ℕ) (at a : ℕ) (s : List ℕ) → at + 1 ≤ length m → overwrite (set m at a) (at + 1) s ≡ overwrite m at (a ∷ s)
 one-before m at a s h = rw (over-sets (a ∷ []) m at h) (over-above m at (a ∷ []) s h)
 
--- ---- a cursor at an entry
-
-module _ {m : List ℕ} {c : Cursor} (R : Reads m c) where
-  pub path-fits : length (entry_in m c).path ≤ max_path
-  unfolding is_entry
-  path-fits = path-short (entry_in m c).path (entry_read R)
-
-  pub words_more : length (all_entry_words (entries_from m c)) ≡ length (entry_words (entry_in m c)) + length (all_entry_words (entries_from m (next_entry m c)))
-  words_more =
-      ap (λ (es : List Entry). length (all_entry_words es)) (from-entry m c R.more)
-      ∙ size-more (entry_in m c) (entries_from m (next_entry m c))
-      ∙ rw (entry_length (entry_in m c))
+-- what an entry of the table says of its path
+pub path-fits : (e : Entry) → is_entry e ≡ true → length e.path ≤ max_path
+unfolding is_entry
+path-fits e ok = path-short e.path ok
 
 -- ---- how many words are still to come
 
-pub record Counting (m : List ℕ) (size : ℕ) (c : Cursor) : Type 0 where
-  pub inside : InList m c
-  pub goes : size + length (all_entry_words (entries_from m c)) ≡ image_size (table_of m)
-  pub most : image_size (table_of m) ≤ max_image
+pub record Counting (t : Table) (size : ℕ) (left : List Entry) : Type 0 where
+  pub goes : size + length (all_entry_words left) ≡ image_size t
+  pub most : image_size t ≤ max_image
 
-pub counting-start : (m : List ℕ) {c : Cursor} → holds m ≡ true → c ≡ first_entry m → Counting m image_head c
+pub counting-start : (m : List ℕ) {left : List Entry} → holds m ≡ true → left ≡ (table_of m).entries → Counting (table_of m) image_head left
 unfolding image_size
-counting-start m h e = rw e (record {
-  inside = first-in m h;
-  goes = ap (λ (es : List Entry). image_head + length (all_entry_words es)) (first-from m);
-  most = few_words (table_of m) (valid-of m h);
-})
+counting-start m h e = record { goes = rw e; most = few_words (table_of m) (valid-of m h) }
 
-module _ {m : List ℕ} {size : ℕ} {c : Cursor} (C : Counting m size c) where
-  pub counting-reads : is_at_entry c ≡ true → Reads m c
-  counting-reads h = record { rest = C.inside; more = h }
+module _ {t : Table} {size : ℕ} {e : Entry} {left rest : List Entry} (C : Counting t size left) (next : left ≡ e ∷ rest) where
+  more : length (all_entry_words left) ≡ 1 + words_for (length e.path) + length (all_entry_words rest)
+  more = ap (λ (es : List Entry). length (all_entry_words es)) next ∙ size-more e rest
 
-  pub counting-next : {n more : ℕ} {c' : Cursor} → is_at_entry c ≡ true → n ≡ length (entry_in m c).path → more ≡ words_for n → c' ≡ next_entry m c
-      → Counting m (size + (1 + more)) c'
-  counting-next h n w e =
-      let R = counting-reads h in
-      rw e (record {
-        inside = next-in R;
-        goes = omega (arith, C.goes, words_more R, entry_length (entry_in m c));
-        most = C.most;
-      })
+  pub counting-next : {n : ℕ} → n ≡ words_for (length e.path) → Counting t (size + (1 + n)) rest
+  counting-next n = record { goes = omega (arith, C.goes, more); most = C.most }
 
-  pub counting-fits : {n more : ℕ} → is_at_entry c ≡ true → n ≡ length (entry_in m c).path → more ≡ words_for n → size + (1 + more) ≤ max_image
-  counting-fits h n w = omega (arith, C.goes, C.most, words_more (counting-reads h), entry_length (entry_in m c))
+  pub counting-fits : {n : ℕ} → n ≡ words_for (length e.path) → size + (1 + n) ≤ max_image
+  counting-fits n = omega (arith, C.goes, C.most, more)
 
-  pub counting-done : is_at_entry c ≡ false → (size ≡ image_size (table_of m)) × (size ≤ max_image)
-  unfolding all_entry_words
-  counting-done h =
-      let none : length (all_entry_words (entries_from m c)) ≡ 0 = rw (from_end m c h) in
-      (omega (arith, C.goes), omega (arith, C.goes, C.most))
+pub counting-done : {t : Table} {size : ℕ} {left : List Entry} → Counting t size left → left ≡ [] → (size ≡ image_size t) × (size ≤ max_image)
+unfolding all_entry_words
+counting-done {left = left} C e =
+    let none : length (all_entry_words left) ≡ 0 = rw e in
+    (omega (arith, C.goes), omega (arith, C.goes, C.most))
 
 -- ---- entries written one behind the other
 
--- whatever writing the entries from the cursor on comes to, writing all of them comes to that
-pub record Writing (m w w' : List ℕ) (at : ℕ) (c : Cursor) : Type 0 where
-  pub inside : InList m c
-  pub goes : {w'' : List ℕ} {end : ℕ} → Appends (all_entry_words (entries_from m c)) w' at w'' end → Appends (all_entry_words (table_of m).entries) w image_head w'' end
-  pub room : at + length (all_entry_words (entries_from m c)) ≤ length w'
+-- whatever writing the entries that are left comes to, writing all of them comes to that
+pub record Writing (t : Table) (w w' : List ℕ) (at : ℕ) (left : List Entry) : Type 0 where
+  pub goes : {w'' : List ℕ} {end : ℕ} → Appends (all_entry_words left) w' at w'' end → Appends (all_entry_words t.entries) w image_head w'' end
+  pub room : at + length (all_entry_words left) ≤ length w'
   pub same : length w' ≡ length w
 
-pub writing_start : (m w : List ℕ) {c : Cursor} → holds m ≡ true → image_size (table_of m) ≤ length w → c ≡ first_entry m → Writing m w w image_head c
+pub writing_start : (t : Table) (w : List ℕ) {left : List Entry} → image_size t ≤ length w → left ≡ t.entries → Writing t w w image_head left
 unfolding image_size
-writing_start m w {c} h long f =
-    let all : entries_from m c ≡ (table_of m).entries = ap (entries_from m) f ∙ first-from m in
-    record { inside = rw f (first-in m h); goes = λ A. appends-as (ap all_entry_words all) A; room = rw all (omega arith); same = refl }
+writing_start t w long e = record { goes = λ A. appends-as (ap all_entry_words e) A; room = rw e (omega arith); same = refl }
 
-module _ {m w w' : List ℕ} {at : ℕ} {c : Cursor} (W : Writing m w w' at c) where
-  pub writing-reads : is_at_entry c ≡ true → Reads m c
-  writing-reads h = record { rest = W.inside; more = h }
+module _ {t : Table} {w w' : List ℕ} {at : ℕ} {left : List Entry} (W : Writing t w w' at left) where
+  module _ {e : Entry} {rest : List Entry} (next : left ≡ e ∷ rest) where
+    words_more : length (all_entry_words left) ≡ length (entry_words e) + length (all_entry_words rest)
+    words_more = ap (λ (es : List Entry). length (all_entry_words es)) next ∙ size-more e rest ∙ rw (entry_length e)
 
-  pub writing-fits : is_at_entry c ≡ true → at + length (entry_words (entry_in m c)) ≤ length w'
-  writing-fits h = omega (arith, W.room, words_more (writing-reads h))
+    pub writing-fits : at + length (entry_words e) ≤ length w'
+    writing-fits = omega (arith, W.room, words_more)
 
-  pub writing-next : {w'' : List ℕ} {at' : ℕ} {c' : Cursor} → is_at_entry c ≡ true → Appends (entry_words (entry_in m c)) w' at w'' at' → length w'' ≡ length w'
-      → c' ≡ next_entry m c → Writing m w w'' at' c'
-  unfolding all_entry_words
-  writing-next h A same e =
-      let R = writing-reads h in
-      rw e (record {
-        inside = next-in R;
-        goes = λ B. W.goes (appends-as (ap all_entry_words (sym (from-entry m c h))) (appends-more (writing-fits h) A B));
-        room = omega (arith, W.room, words_more R, A.end, same);
-        same = same ∙ W.same;
-      })
+    pub writing-next : {w'' : List ℕ} {at' : ℕ} → Appends (entry_words e) w' at w'' at' → length w'' ≡ length w' → Writing t w w'' at' rest
+    unfolding all_entry_words
+    writing-next A same = record {
+      goes = λ B. W.goes (appends-as (ap all_entry_words (sym next)) (appends-more writing-fits A B));
+      room = omega (arith, W.room, words_more, A.end, same);
+      same = same ∙ W.same;
+    }
 
   -- and the words of run, number and table before them
-  pub writing-done : (v : List ℕ) (run number table : ℕ) → is_at_entry c ≡ false → w ≡ set (set (set v 0 run) 1 number) 2 table → image_head ≤ length v
-      → w' ≡ begun (run ∷ number ∷ table ∷ all_entry_words (table_of m).entries) v
+  pub writing-done : (v : List ℕ) (run number table : ℕ) → left ≡ [] → w ≡ set (set (set v 0 run) 1 number) 2 table → image_head ≤ length v
+      → w' ≡ begun (run ∷ number ∷ table ∷ all_entry_words t.entries) v
   unfolding all_entry_words
-  writing-done v run number table h e three =
-      let A = W.goes (appends-as (ap all_entry_words (sym (from_end m c h))) (appends-none w' at)) in
+  writing-done v run number table none e three =
+      let A = W.goes (appends-as (ap all_entry_words (sym none)) (appends-none w' at)) in
       A.content
-      ∙ ap (λ (x : List ℕ). overwrite x image_head (all_entry_words (table_of m).entries)) e
-      ∙ three-before v 0 run number table (all_entry_words (table_of m).entries) three
-      ∙ over-start v (run ∷ number ∷ table ∷ all_entry_words (table_of m).entries)
+      ∙ ap (λ (x : List ℕ). overwrite x image_head (all_entry_words t.entries)) e
+      ∙ three-before v 0 run number table (all_entry_words t.entries) three
+      ∙ over-start v (run ∷ number ∷ table ∷ all_entry_words t.entries)

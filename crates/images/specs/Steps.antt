@@ -1,7 +1,6 @@
 -- Steps of reading an image: an entry, entries that are one table's, what reading answers, and the memory that a table is loaded into.
 use Rattle.std.specs.Prelude.{ℕ, ◌+◌, ◌≡◌, List, [], ◌∷◌, Bool, true, false, ◌&&◌, length, leb, eqb, Option, None, Some}
 use Rattle.paths.specs.Copying.{begun}
-use Rattle.table.specs.declared.Kind.{Kind}
 use Rattle.table.specs.Entries.{Entry}
 use Rattle.table.specs.Tables.{max_path_bytes, path_bytes, marks_of}
 use Rattle.table.specs.Memory.{put}

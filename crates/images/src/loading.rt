@@ -20,9 +20,7 @@ pub fn load_table(words: &[u32], image: ImageRead, mem: &mut [u8])
     let mut from = IMAGE_HEAD;
     let mut at = TABLE_HEAD;
     for _ in 0..image.count {
-        let Some(entry) = read_entry(words, from, &mut space) else {
-            return;
-        };
+        let entry = read_entry(words, from, &mut space).unwrap();
         at = append_entry(mem, at, entry.kind, &space[..entry.size]);
         from = entry.end;
     }

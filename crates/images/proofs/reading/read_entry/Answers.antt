@@ -1,6 +1,4 @@
 -- `read_entry` meets its contract, at each way out.
-use mathlib.Core.Path.{◌≡◌}
-use mathlib.Core.Bool.{true, false}
 use native.Mathlib.Omega.{arith}
 use Rattle.std.proofs.lemmas.Bool.Decides.{nat_tests}
 use Rattle.records.proofs.WordLaws.{read-stands}

@@ -1,23 +1,19 @@
-use mathlib.Core.Path.{sym, ap, ◌∙◌}
-use lib.ListN.{length}
-use Rattle.table.proofs.ReadingLaws.{fewer-left}
-use Rattle.images.proofs.WritingLaws.{path-fits, counting-start, counting-reads, counting-next, counting-done}
+use mathlib.Core.Path.{ap, ◌∙◌}
+use Rattle.table.specs.Held.{entry_of}
+use Rattle.table.specs.Tables.{Table}
+use Rattle.images.proofs.WritingLaws.{path-fits, counting-start, counting-next, counting-done}
 use Rattle.images.proofs.writing.image_size.Goals as goal
 
-pub loop-cursor-init : goal.loop-cursor-init
-loop-cursor-init c = counting-start _ c.requires c.first-cursor.ensures
+pub loop-entry-init : goal.loop-entry-init
+loop-entry-init c =
+    counting-start _ c.requires
+    (c.into_iter-entry-iterator.ensures.into_iter_gives ∙ c.entries-entry-items.ensures ∙ ap (λ (t : Table). t.entries) c.of.ensures)
 
 pub words_for-requires : goal.words_for-requires
-words_for-requires c =
-    rw c.path-n.ensures (path-fits (counting-reads c.loop-cursor.invariant (sym c.is_at_entry.ensures ∙ c.loop-cursor-test.true)))
+words_for-requires c = path-fits (entry_of c.in-Some.entry) c.in-Some.entry.sound
 
-pub loop-cursor-smaller : goal.loop-cursor-smaller
-loop-cursor-smaller c =
-    rw c.advance-cursor.ensures (fewer-left _ _ (sym c.is_at_entry.ensures ∙ c.loop-cursor-test.true))
-
-pub loop-cursor-preserved : goal.loop-cursor-preserved
-loop-cursor-preserved c =
-    counting-next c.loop-cursor.invariant (sym c.is_at_entry.ensures ∙ c.loop-cursor-test.true) (ap length c.path-n.ensures) c.words_for.ensures c.advance-cursor.ensures
+pub loop-entry-preserved : goal.loop-entry-preserved
+loop-entry-preserved c = counting-next c.loop-entry.invariant c.in-Some.ensures.steps c.words_for.ensures
 
 pub returns : goal.returns
-returns c = counting-done c.loop-cursor.invariant (sym c.is_at_entry.ensures ∙ c.loop-cursor-test.false)
+returns c = counting-done c.loop-entry.invariant c.in-None.ensures.steps.0

@@ -1,11 +1,7 @@
--- `write_image` meets its contract. The loop's invariant: whatever writing the entries from the cursor on comes to, the image comes to that.
-use lib.ListN.{length}
-use Rattle.table.specs.Reading.{entries_from}
+-- `write_image` meets its contract. The loop's invariant: whatever writing the entries that are left comes to, the image comes to that.
+use Rattle.table.specs.Memory.{table_of}
 use Rattle.images.proofs.WritingLaws.{Writing}
 use Rattle.images.proofs.writing.write_image.Given as goal
 
-abbrev pub invariant-loop-cursor : goal.invariant-loop-cursor
-invariant-loop-cursor l = Writing l.mem l.initial.words l.words l.at l.cursor
-
-abbrev pub decreases-loop-cursor : goal.decreases-loop-cursor
-decreases-loop-cursor l = length (entries_from l.mem l.cursor)
+abbrev pub invariant-loop-entry : goal.invariant-loop-entry
+invariant-loop-entry l = Writing (table_of l.mem) l.initial.words l.words l.at l.entry-iterator

@@ -36,14 +36,11 @@ unfolding at_least_one
 least-many zero = omega arith
 least-many (suc k) = omega arith
 
-least-max : (k : ℕ) → at_least_one k ≡ max k 1
+-- so the code says it
+pub least_max : (k : ℕ) → at_least_one k ≡ max k 1
 unfolding at_least_one
-least-max zero = omega arith
-least-max (suc k) = omega arith
-
--- whether the words are too few is told by how many records they have room for
-pub short-by : (k w : ℕ) → ltb (w / record_space) (max k 1) ≡ ltb w (record_space * at_least_one k)
-short-by k w = rw (least-max k) (grind (arith, common_steps))
+least_max zero = omega arith
+least_max (suc k) = omega arith
 
 -- ---- the two tests, as steps of a checking order
 

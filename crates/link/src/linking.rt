@@ -9,6 +9,7 @@ use records::numbers::is_run;
 use refusals::Refusal;
 
 // Whether so many words are too few for the records of so many items.
+#[tactic(auto, using(crate::proofs::LinkLaws::least_max))]
 fn is_short(words: usize, items: usize) -> bool
     ensures { result ≡ ltb words (record_space * at_least_one items) }
 {

@@ -48,35 +48,38 @@ fn take_change(
     requires { (holds mem.old ≡ true) × (fits (act_of record.action q.now) ≡ true) }
     ensures { Takes record.run record.number (act_of record.action q.now) mem.old numbers mem.new result }
 {
-    let after = numbers.meet(record.run, record.number);
-    if record.run < after.run {
+    let Record {
+        run,
+        number,
+        action,
+        ..
+    } = record;
+    let after = numbers.meet(run, number);
+    if run < after.run {
         return Ok(Arrived {
             arrival: Arrival::Repeat,
             numbers: after,
         });
     }
-    if record.run > after.run {
+    if after.run < run {
         return Ok(take_higher(mem, after, record, q));
     }
-    if record.number <= after.n {
+    if number <= after.n {
         return Ok(Arrived {
             arrival: Arrival::Repeat,
             numbers: after,
         });
     }
-    if record.number > after.n + 1 {
+    if number > after.n + 1 {
         return Ok(Arrived {
             arrival: Arrival::Early,
             numbers: after,
         });
     }
-    carry_out(mem, record.action, q)?;
+    carry_out(mem, action, q)?;
     Ok(Arrived {
         arrival: Arrival::Applied,
-        numbers: Numbers {
-            n: record.number,
-            ..after
-        },
+        numbers: Numbers { n: number, ..after },
     })
 }
 
@@ -84,10 +87,7 @@ fn take_change(
 pub fn take_record(mem: &mut [u8], words: &[u32], numbers: Numbers) -> Result<Arrived, Refusal>
     ensures { Arrives mem.old words.now numbers mem.new (numbers_in numbers result) (arrival_in result) }
 {
-    if !holds_table(mem) {
-        return Err(Refusal::NoTable);
-    }
-    if numbers.in_conflict() {
+    if !holds_table(mem) || numbers.in_conflict() {
         return Err(Refusal::NoTable);
     }
     let mut space = [0u8; MAX_PATH];

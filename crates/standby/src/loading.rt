@@ -21,10 +21,7 @@ fn is_taken(numbers: Numbers, run: u32, number: u64) -> bool
 pub fn take_image(mem: &mut [u8], words: &[u32], numbers: Numbers) -> Result<Arrived, Refusal>
     ensures { Loads mem.old words.now numbers mem.new (numbers_in numbers result) (arrival_in result) }
 {
-    if !holds_table(mem) {
-        return Err(Refusal::NoTable);
-    }
-    if numbers.in_conflict() {
+    if !holds_table(mem) || numbers.in_conflict() {
         return Err(Refusal::NoTable);
     }
     let image = read_image(words).ok_or(Refusal::MalformedImage)?;

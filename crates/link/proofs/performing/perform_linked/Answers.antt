@@ -20,6 +20,8 @@ returns-in_err-carry_out c =
     let p = err_from_is_err_and c.from_residual-in_err-carry_out.result c.from_residual-in_err-carry_out.ensures.1 in
     rw (p.1, p.2) (performs-refused (left-cause _ _ _ (omega arith)) c.in_err-carry_out.ensures)
 
+-- The act is carried out,
+-- and then it is recorded.
 pub returns : goal.returns
 unfolding numbering
 returns c = performs-done (left-cause _ _ _ (omega arith)) c.in_ok-carry_out.ensures c.send_at.ensures.records c.send_at.ensures.few

@@ -4,17 +4,17 @@ use Rattle.std.proofs.lemmas.Result.{err_from_is_err_and}
 use Rattle.standby.proofs.ArrivingLaws.{takes-lower, takes-higher, takes-repeat, takes-early, takes-full, takes-applied}
 use Rattle.standby.proofs.arriving.take_change.Goals as goal
 
-pub returns-then-record-after : goal.returns-then-record-after
-returns-then-record-after c = takes-lower _ _ _ _ _ c.meet-after.ensures (omega arith)
+pub returns-then-run-after : goal.returns-then-run-after
+returns-then-run-after c = takes-lower _ _ _ _ _ c.meet-after.ensures (omega arith)
 
-pub returns-then-record-after-2 : goal.returns-then-record-after-2
-returns-then-record-after-2 c = takes-higher _ _ _ _ _ c.meet-after.ensures _ (omega arith) c.take_higher.ensures
+pub returns-then-after-run : goal.returns-then-after-run
+returns-then-after-run c = takes-higher _ _ _ _ _ c.meet-after.ensures _ (omega arith) c.take_higher.ensures
 
-pub returns-then-record-after-3 : goal.returns-then-record-after-3
-returns-then-record-after-3 c = takes-repeat _ _ _ _ _ c.meet-after.ensures (omega arith) (omega arith)
+pub returns-then-number-after : goal.returns-then-number-after
+returns-then-number-after c = takes-repeat _ _ _ _ _ c.meet-after.ensures (omega arith) (omega arith)
 
-pub returns-then-record-after-4 : goal.returns-then-record-after-4
-returns-then-record-after-4 c = takes-early _ _ _ _ _ c.meet-after.ensures (omega arith) (omega arith)
+pub returns-then-number-after-2 : goal.returns-then-number-after-2
+returns-then-number-after-2 c = takes-early _ _ _ _ _ c.meet-after.ensures (omega arith) (omega arith)
 
 pub returns-in_err-carry_out : goal.returns-in_err-carry_out
 returns-in_err-carry_out c =

@@ -6,12 +6,13 @@ use Rattle.std.proofs.lemmas.Result.{err_from_is_err_and}
 use Rattle.refusals.specs.declared.Refusal.TheVariants.{MalformedRecord}
 use Rattle.standby.proofs.ArrivingLaws.{arrival-no-table, arrival-conflict, arrival-malformed, reads_none, reads-change, reads_more, comes-refused, comes-taken}
 use Rattle.standby.proofs.arriving.take_record.Goals as goal
+use Rattle.standby.proofs.arriving.take_record.Goals.{then-not-holds_table-via-then-not-holds_table, then-not-holds_table-via-else-not-holds_table+then-in_conflict}
 
 pub returns-then-not-holds_table : goal.returns-then-not-holds_table
-returns-then-not-holds_table c = comes-refused (arrival-no-table _ _ _ (sym c.if-not-holds_table.ensures))
-
-pub returns-then-in_conflict : goal.returns-then-in_conflict
-returns-then-in_conflict c = comes-refused (arrival-conflict _ _ _ (sym c.if-not-holds_table.ensures) (sym c.if-in_conflict.ensures))
+returns-then-not-holds_table c = comes-refused (elim c.then-not-holds_table.branch [
+  then-not-holds_table-via-then-not-holds_table w ↦ arrival-no-table _ _ _ (sym w.if-not-holds_table.ensures)
+  | then-not-holds_table-via-else-not-holds_table+then-in_conflict w ↦ arrival-conflict _ _ _ (sym w.if-not-holds_table.ensures) (sym w.if-in_conflict.ensures)
+])
 
 pub returns-in_err-record : goal.returns-in_err-record
 returns-in_err-record c =

@@ -7,12 +7,13 @@ use Rattle.images.proofs.ReadingLaws.{no-image-told, image-told}
 use Rattle.standby.proofs.ArrivingLaws.{comes-refused}
 use Rattle.standby.proofs.LoadingLaws.{loading-no-table, loading-conflict, loading-malformed, loads-repeat, loads-taken}
 use Rattle.standby.proofs.loading.take_image.Goals as goal
+use Rattle.standby.proofs.loading.take_image.Goals.{then-not-holds_table-via-then-not-holds_table, then-not-holds_table-via-else-not-holds_table+then-in_conflict}
 
 pub returns-then-not-holds_table : goal.returns-then-not-holds_table
-returns-then-not-holds_table c = comes-refused (loading-no-table _ _ _ (sym c.if-not-holds_table.ensures))
-
-pub returns-then-in_conflict : goal.returns-then-in_conflict
-returns-then-in_conflict c = comes-refused (loading-conflict _ _ _ (sym c.if-not-holds_table.ensures) (sym c.if-in_conflict.ensures))
+returns-then-not-holds_table c = comes-refused (elim c.then-not-holds_table.branch [
+  then-not-holds_table-via-then-not-holds_table w ↦ loading-no-table _ _ _ (sym w.if-not-holds_table.ensures)
+  | then-not-holds_table-via-else-not-holds_table+then-in_conflict w ↦ loading-conflict _ _ _ (sym w.if-not-holds_table.ensures) (sym w.if-in_conflict.ensures)
+])
 
 pub returns-in_err-image : goal.returns-in_err-image
 returns-in_err-image c =

@@ -13,13 +13,17 @@ use deciding::PromptResponse;
 pub const MAX_ITEMS: usize = 64;
 
 // Whether every answer is known.
+#[tactic(auto, unfolding(crate::specs::Steps::are_responses))]
 pub fn are_responses(responses: &[u32]) -> bool
     ensures { result ≡ are_responses responses.now }
 {
-    responses.iter().all(|n| PromptResponse::try_from(*n).is_ok())
+    responses
+        .iter()
+        .all(|n| PromptResponse::try_from(*n).is_ok())
 }
 
 // The answer at a place of answers that are all known.
+#[tactic(auto, unfolding(crate::specs::Steps::are_responses, deciding::specs::Decisions::known_response))]
 pub fn response_at(responses: &[u32], i: usize) -> PromptResponse
     requires { (are_responses responses.now ≡ true) × (i < length responses.now) }
     ensures { response_of (get_or responses.now i 0) ≡ Some result }
@@ -31,13 +35,5 @@ pub fn response_at(responses: &[u32], i: usize) -> PromptResponse
 pub fn close_at(n: usize, ends: &[u32]) -> bool
     ensures { result ≡ close_at n 0 ends.now }
 {
-    let mut from = 0;
-    for end in ends {
-        let end = *end as usize;
-        if end < from {
-            return false;
-        }
-        from = end;
-    }
-    from == n
+    ends.is_sorted() && ends.last().copied().unwrap_or(0) as usize == n
 }

@@ -28,7 +28,7 @@ use Rattle.records.proofs.NumberedLaws.{numbered-length, numbered-words}
 use Rattle.link.specs.declared.Link.{Link}
 use Rattle.link.specs.declared.Link.TheVariants.{Plain, Linked}
 use Rattle.link.specs.Linking.{unnumbered, after, numbering, used_up, past, carry_cause, carried, single_act}
-use Rattle.link.specs.Sending.{changes_of, Lent, lent, alone, Sends, sent_words, Does}
+use Rattle.link.specs.Sending.{changes_of, Lent, lent, alone, Sends, Does}
 use Rattle.link.specs.Steps.{is_none, no_number, Records, SendsAt, Performs}
 
 -- ---- acts in turn

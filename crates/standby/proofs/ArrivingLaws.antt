@@ -3,7 +3,7 @@ use Rattle.std.specs.Prelude.{Option, None, Some, Ok, Err}
 use Prim.Native.Nat.{ℕ, ◌+◌, ◌≤◌, ◌<◌}
 use mathlib.Core.Path.{◌≡◌, refl, sym, ap, ◌∙◌}
 use mathlib.Core.List.{List}
-use mathlib.Core.Bool.{Bool, true, false, ◌&&◌, ◌||◌, cond}
+use mathlib.Core.Bool.{Bool, true, false, ◌&&◌}
 use native.Mathlib.Omega.{arith}
 use Rattle.std.proofs.lemmas.Grind.{common_steps}
 use lib.ListN.{length, take, drop, length-append}
@@ -18,7 +18,6 @@ use Rattle.paths.specs.Resolving.{max_path}
 use Rattle.paths.specs.Copying.{begun}
 use Rattle.paths.specs.Giving.{is_path}
 use Rattle.paths.proofs.ComponentLaws.{and_left}
-use Rattle.table.specs.declared.Action.{Action}
 use Rattle.table.specs.Tables.{Table, max_path_bytes, fresh, path_bytes, is_entry}
 use Rattle.table.specs.Acts.{Act, insert, set_switches, revoke, revoke_all, is_act, would_add, has_room, overflows, act_overflows}
 use Rattle.table.specs.Memory.{table_of, holds, put, do_act, do_acts}

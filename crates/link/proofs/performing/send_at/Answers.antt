@@ -1,5 +1,5 @@
 -- `send_at` meets its contract.
-use mathlib.Core.Path.{refl, sym, ◌∙◌}
+use mathlib.Core.Path.{refl}
 use native.Mathlib.Omega.{arith}
 use Rattle.table.specs.Carrying.{act_of}
 use Rattle.records.proofs.RecordLaws.{run-few}

@@ -10,7 +10,7 @@ use Rattle.standby.proofs.arriving.take_record.Goals.{then-not-holds_table-via-t
 
 pub returns-then-not-holds_table : goal.returns-then-not-holds_table
 returns-then-not-holds_table c = comes-refused (elim c.then-not-holds_table.branch [
-  then-not-holds_table-via-then-not-holds_table w ↦ arrival-no-table _ _ _ (sym w.if-not-holds_table.ensures)
+  | then-not-holds_table-via-then-not-holds_table w ↦ arrival-no-table _ _ _ (sym w.if-not-holds_table.ensures)
   | then-not-holds_table-via-else-not-holds_table+then-in_conflict w ↦ arrival-conflict _ _ _ (sym w.if-not-holds_table.ensures) (sym w.if-in_conflict.ensures)
 ])
 

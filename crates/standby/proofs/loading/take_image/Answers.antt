@@ -11,7 +11,7 @@ use Rattle.standby.proofs.loading.take_image.Goals.{then-not-holds_table-via-the
 
 pub returns-then-not-holds_table : goal.returns-then-not-holds_table
 returns-then-not-holds_table c = comes-refused (elim c.then-not-holds_table.branch [
-  then-not-holds_table-via-then-not-holds_table w ↦ loading-no-table _ _ _ (sym w.if-not-holds_table.ensures)
+  | then-not-holds_table-via-then-not-holds_table w ↦ loading-no-table _ _ _ (sym w.if-not-holds_table.ensures)
   | then-not-holds_table-via-else-not-holds_table+then-in_conflict w ↦ loading-conflict _ _ _ (sym w.if-not-holds_table.ensures) (sym w.if-in_conflict.ensures)
 ])
 

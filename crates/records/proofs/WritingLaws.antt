@@ -1,6 +1,9 @@
 -- Laws of writing a record: stores that are one sequence of words, and the words of each action.
+use Rattle.std.specs.Prelude.{Option, None, Some, option_map, ◌⊎◌}
+use Rattle.std.proofs.Common.{inl, inr}
+use Rattle.refusals.proofs.CauseLaws.{Some-injective}
 use Prim.Native.Nat.{ℕ, ◌+◌, ◌≤◌}
-use mathlib.Core.Path.{◌≡◌}
+use mathlib.Core.Path.{◌≡◌, refl, ap}
 use mathlib.Core.List.{List, [], ◌∷◌}
 use mathlib.Core.Bool.{true}
 use native.Mathlib.Numerals.{towards_suc}
@@ -11,7 +14,7 @@ use Rattle.table.specs.declared.Kind.{Kind}
 use Rattle.table.specs.declared.Action.{Action}
 use Rattle.table.specs.declared.Action.TheVariants.{Nothing, Insert, SetSwitches, Revoke, RevokeAll}
 use Rattle.table.specs.Tables.{is_entry}
-use Rattle.table.specs.Acts.{is_act}
+use Rattle.table.specs.Acts.{Act, is_act}
 use Rattle.table.specs.Carrying.{act_of, fits}
 use Rattle.table.proofs.Overwrites.{over-sets, over-above}
 use Rattle.records.specs.Records.{switches_kind, word_of, insert_number, act_number, run_word, head_word, path_part, act_part, change_words}
@@ -31,37 +34,41 @@ three-before m at a b c s h = rw (three-stores m at a b c h) (over-above m at (a
 
 -- ---- the words of each action
 
-module _ {action : Action} (run number : ℕ) (q : List ℕ) where
-  pub no_words : action ≡ Nothing → [] ≡ record_words run number (act_of action q)
-  unfolding act_of record_words
-  no_words e = rw e
+-- an action that takes a path
+abbrev pub WithPath : Action → Type 0
+WithPath action = ((k : Kind) × (action ≡ Insert k)) ⊎ (action ≡ Revoke)
 
-  module _ {before head : ℕ} (b : before ≡ run_word run) where
-    pub insert-words : {k : Kind} → action ≡ Insert k → head ≡ head_word (insert_number k) number
-        → before ∷ head ∷ path_part q ≡ record_words run number (act_of action q)
-    unfolding act_of record_words change_words act_number act_part
-    insert-words e h = rw (e, b, h)
+no-act : (o : Option Act) → None ≡ option_map act_number o → o ≡ None
+no-act None e = refl
+no-act (Some act) e = cc
 
-    pub switches-words : {v : ℕ} → action ≡ SetSwitches v → head ≡ head_word 5 number
-        → before ∷ head ∷ word_of switches_kind v ∷ [] ≡ record_words run number (act_of action q)
-    unfolding act_of record_words change_words act_number act_part
-    switches-words e h = rw (e, b, h)
+with-number : (run number : ℕ) (l : List ℕ) {k j : ℕ} → Some k ≡ Some j → run_word run ∷ head_word k number ∷ l ≡ run_word run ∷ head_word j number ∷ l
+with-number run number l e = ap (λ (x : ℕ). run_word run ∷ head_word x number ∷ l) (Some-injective _ _ e)
 
-    pub revoke-words : action ≡ Revoke → head ≡ head_word 6 number → before ∷ head ∷ path_part q ≡ record_words run number (act_of action q)
-    unfolding act_of record_words change_words act_number act_part
-    revoke-words e h = rw (e, b, h)
-
-    pub revoke-all-words : action ≡ RevokeAll → head ≡ head_word 7 number → before ∷ head ∷ [] ≡ record_words run number (act_of action q)
-    unfolding act_of record_words change_words act_number act_part
-    revoke-all-words e h = rw (e, b, h)
-
--- ---- the path of an act that fits is within its limit
-
-module _ {action : Action} (q : List ℕ) (ok : fits (act_of action q) ≡ true) where
-  pub insert-short : {k : Kind} → action ≡ Insert k → length q ≤ max_path
+module _ (action : Action) (q : List ℕ) where
+  -- its path is within its limit
+  pub fits-short : WithPath action → fits (act_of action q) ≡ true → length q ≤ max_path
   unfolding act_of fits is_act is_entry
-  insert-short e = path-short q (rw e at ok)
+  fits-short (inl k) ok = path-short q (rw k.1 at ok)
+  fits-short (inr e) ok = path-short q (rw e at ok)
 
-  pub revoke-short : action ≡ Revoke → length q ≤ max_path
-  unfolding act_of fits is_act
-  revoke-short e = path-short q (rw e at ok)
+  module _ (run number : ℕ) where
+    pub no-record : None ≡ option_map act_number (act_of action q) → [] ≡ record_words run number (act_of action q)
+    unfolding record_words
+    no-record e = rw (no-act (act_of action q) e)
+
+    module _ {k : ℕ} (n : Some k ≡ option_map act_number (act_of action q)) where
+      pub path-record : WithPath action → run_word run ∷ head_word k number ∷ path_part q ≡ record_words run number (act_of action q)
+      unfolding act_of record_words change_words act_number act_part
+      path-record (inl i) = rw i.1 (with-number run number (path_part q) (rw i.1 at n))
+      path-record (inr e) = rw e (with-number run number (path_part q) (rw e at n))
+
+      pub switches-record : {v : ℕ} → action ≡ SetSwitches v
+          → run_word run ∷ head_word k number ∷ word_of switches_kind v ∷ [] ≡ record_words run number (act_of action q)
+      unfolding act_of record_words change_words act_number act_part
+      switches-record {v} e = rw e (with-number run number (word_of switches_kind v ∷ []) (rw e at n))
+
+      pub alone-record : (action ≡ RevokeAll) ⊎ (action ≡ Nothing) → run_word run ∷ head_word k number ∷ [] ≡ record_words run number (act_of action q)
+      unfolding act_of record_words change_words act_number act_part
+      alone-record (inl e) = rw e (with-number run number [] (rw e at n))
+      alone-record (inr e) = let no : Some k ≡ None = rw e at n in cc

@@ -16,6 +16,7 @@ use paths::resolving::is_resolved;
 use table::{Action, Kind, MAX_SWITCHES};
 
 // The run that a word says, if it is a run word.
+#[tactic(auto, using(std::proofs::lemmas::Bool::Decides::nat_tests), unfolding(crate::specs::Steps::run_of, crate::specs::Records::is_run_word))]
 pub fn run_of(word: Option<u32>) -> Option<u32>
     ensures { result ≡ run_of word }
 {
@@ -25,12 +26,13 @@ pub fn run_of(word: Option<u32>) -> Option<u32>
 }
 
 // The path length that a word says, if it is a length word.
+#[tactic(auto, using(std::proofs::lemmas::Bool::Decides::nat_tests), unfolding(crate::specs::Steps::length_of, crate::specs::Records::is_length))]
 fn path_length(word: Option<u32>) -> Option<usize>
     ensures { result ≡ length_of word }
 {
     let word = word?;
     let n = (word % KIND_UNIT) as usize;
-    (word / KIND_UNIT == LENGTH && n >= 1 && n <= MAX_PATH).then_some(n)
+    (word / KIND_UNIT == LENGTH && (1..=MAX_PATH).contains(&n)).then_some(n)
 }
 
 // Takes three bytes out of each word, whatever its kind.
@@ -100,6 +102,7 @@ fn read_path(
 }
 
 // The act of a head that takes a path.
+#[tactic(auto, unfolding(table::specs::Carrying::action_of, crate::specs::Steps::path_act))]
 fn path_action(act: u8) -> Action
     ensures { (q : List ℕ) → result ≡ action_of (Some (path_act act q)) }
 {
@@ -113,6 +116,7 @@ fn path_action(act: u8) -> Action
 }
 
 // The record of a head that takes switches, which the word behind it says; the words behind that begin at `end`.
+#[tactic(auto, using(std::proofs::lemmas::Bool::Decides::nat_tests), unfolding(crate::specs::Steps::switches_record, crate::specs::Records::is_switches))]
 fn with_switches(run: u32, number: u64, next: Option<u32>, end: usize) -> Option<Record>
     ensures { result ≡ switches_record run number next end }
 {

@@ -1,22 +1,15 @@
 // Writing the record of an act: each function writes a sequence of words from an offset on, and nothing else.
-ghost use Rattle.std.specs.Prelude.{◌≡◌, [], ◌∷◌, true, ◌+◌, ◌<◌, ◌≤◌, length, get_or};
+ghost use Rattle.std.specs.Prelude.{◌≡◌, ℕ, List, true, ◌+◌, ◌<◌, ◌≤◌, length, get_or, option_map, IfSome};
 ghost use Rattle.paths.specs.Copying.{Appends};
 ghost use Rattle.paths.specs.Resolving.{max_path};
 ghost use Rattle.table.specs.Carrying.{act_of, fits};
 ghost use Rattle.records.specs.Numbers.{max_run, max_number, record_space};
-ghost use Rattle.records.specs.Records.{switches_kind, kind_unit, word_of, insert_number, head_word, path_word, path_words, path_part};
+ghost use Rattle.records.specs.Records.{kind_unit, word_of, act_number, path_word, path_words};
 ghost use Rattle.records.specs.Answers.{record_words};
 ghost use Rattle.records.specs.Steps.{words_for};
 
 use crate::{ACT_UNIT, HEAD, KIND_UNIT, LENGTH, PATH, RUN, SWITCHES};
 use table::{Action, Kind};
-
-// The act numbers of the other acts than inserts.
-const SET_SWITCHES: u32 = 5;
-
-const REVOKE: u32 = 6;
-
-const REVOKE_ALL: u32 = 7;
 
 // A word of a kind, with low bits below it.
 pub fn word_of(kind: u32, low: u32) -> u32
@@ -62,56 +55,22 @@ pub fn write_path_words(words: &mut [u32], at: usize, p: &[u8]) -> usize
     at + words_for(p.len())
 }
 
-// Writes a run word and a head, and a path's length and words behind them.
-fn write_with_path(words: &mut [u32], at: usize, before: u32, head: u32, p: &[u8]) -> usize
-    requires { (length p.now ≤ max_path) × (at + record_space ≤ length words.old) }
-    ensures { Appends (before ∷ head ∷ path_part p.now) words.old at words.new result }
+// The number of an act, if the action is one. Acts go G, D, I, P, and kinds G, D, P, I.
+#[tactic(auto, unfolding(table::specs::Carrying::act_of, crate::specs::Records::act_number))]
+fn act_number(action: Action) -> Option<u32>
+    ensures number { (q : List ℕ) → result ≡ option_map act_number (act_of action q) }
+    ensures few { IfSome result (λ n. n ≤ 7) }
 {
-    words[at] = before;
-    words[at + 1] = head;
-    words[at + 2] = word_of(LENGTH, p.len() as u32);
-    write_path_words(words, at + 3, p)
-}
-
-// Writes a run word and a head, and switches behind them.
-fn write_with_switches(words: &mut [u32], at: usize, before: u32, head: u32, switches: u8) -> usize
-    requires { at + record_space ≤ length words.old }
-    ensures { Appends (before ∷ head ∷ word_of switches_kind switches ∷ []) words.old at words.new result }
-{
-    words[at] = before;
-    words[at + 1] = head;
-    words[at + 2] = word_of(SWITCHES, switches as u32);
-    at + 3
-}
-
-// Writes a run word and a head with nothing behind them.
-fn write_alone(words: &mut [u32], at: usize, before: u32, head: u32) -> usize
-    requires { at + record_space ≤ length words.old }
-    ensures { Appends (before ∷ head ∷ []) words.old at words.new result }
-{
-    words[at] = before;
-    words[at + 1] = head;
-    at + 2
-}
-
-// The act number of an insert. Acts go G, D, I, P, and kinds G, D, P, I.
-fn insert_number(kind: Kind) -> u32
-    ensures { result ≡ insert_number kind }
-{
-    match kind {
-        Kind::G => 1,
-        Kind::D => 2,
-        Kind::I => 3,
-        Kind::P => 4,
+    match action {
+        Action::Nothing => None,
+        Action::Insert(Kind::G) => Some(1),
+        Action::Insert(Kind::D) => Some(2),
+        Action::Insert(Kind::I) => Some(3),
+        Action::Insert(Kind::P) => Some(4),
+        Action::SetSwitches(_) => Some(5),
+        Action::Revoke => Some(6),
+        Action::RevokeAll => Some(7),
     }
-}
-
-// The head of an act's record.
-fn head_word(act: u32, number: u64) -> u32
-    requires { (act ≤ 7) × (number ≤ max_number) }
-    ensures { result ≡ head_word act number }
-{
-    word_of(HEAD, act * ACT_UNIT + number as u32)
 }
 
 // Writes the record of an act, with the path q lent beside it, under its run and the number of its change, and says where it ends.
@@ -127,24 +86,20 @@ pub fn write_record(
     requires q_value { fits (act_of action q.now) ≡ true }
     ensures { Appends (record_words run number (act_of action q.now)) words.old at words.new result }
 {
-    let before = word_of(RUN, run);
+    let Some(act) = act_number(action) else {
+        return at;
+    };
+    words[at] = word_of(RUN, run);
+    words[at + 1] = word_of(HEAD, act * ACT_UNIT + number as u32);
     match action {
-        Action::Nothing => at,
-        Action::Insert(kind) => write_with_path(
-            words,
-            at,
-            before,
-            head_word(insert_number(kind), number),
-            q,
-        ),
-        Action::SetSwitches(switches) => write_with_switches(
-            words,
-            at,
-            before,
-            head_word(SET_SWITCHES, number),
-            switches,
-        ),
-        Action::Revoke => write_with_path(words, at, before, head_word(REVOKE, number), q),
-        Action::RevokeAll => write_alone(words, at, before, head_word(REVOKE_ALL, number)),
+        Action::Insert(_) | Action::Revoke => {
+            words[at + 2] = word_of(LENGTH, q.len() as u32);
+            write_path_words(words, at + 3, q)
+        }
+        Action::SetSwitches(switches) => {
+            words[at + 2] = word_of(SWITCHES, u32::from(switches));
+            at + 3
+        }
+        Action::RevokeAll | Action::Nothing => at + 2,
     }
 }

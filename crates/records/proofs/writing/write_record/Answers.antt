@@ -1,35 +1,50 @@
 -- `write_record` meets its contract, act by act.
-use Prim.Native.Nat.{ℕ}
-use mathlib.Core.Path.{ap, ◌∙◌}
 use native.Mathlib.Omega.{arith}
-use Rattle.records.specs.Records.{head_word}
+use mathlib.Core.Path.{refl, ◌∙◌}
+use lib.ListN.{length-set}
 use Rattle.table.proofs.Overwrites.{appends-none, appends-as}
-use Rattle.records.proofs.WritingLaws.{no_words, insert-words, switches-words, revoke-words, revoke-all-words, insert-short, revoke-short}
+use Rattle.records.specs.Records.{path_part}
+use Rattle.records.proofs.WritingLaws.{two-stores, three-stores, three-before, fits-short, no-record, path-record, switches-record, alone-record}
 use Rattle.records.proofs.writing.write_record.Goals as goal
 
-pub write_with_path-requires : goal.write_with_path-requires
-write_with_path-requires c = (insert-short _ c.requires.q_value c.in-Insert.is, omega arith)
+pub returns-in_default : goal.returns-in_default
+returns-in_default c = appends-as (no-record _ _ _ _ (c.in_default.ensures.number _)) (appends-none _ _)
 
-pub write_with_path-requires-in-Revoke : goal.write_with_path-requires-in-Revoke
-write_with_path-requires-in-Revoke c = (revoke-short _ c.requires.q_value c.in-Revoke.is, omega arith)
+pub overflow_cast-q : goal.overflow_cast-q
+overflow_cast-q c = omega (arith, fits-short _ c.args.q.now c.in-Insert.is c.requires.q_value)
 
-pub returns-in-Nothing : goal.returns-in-Nothing
-returns-in-Nothing c = appends-as (no_words _ _ _ c.in-Nothing.is) (appends-none _ _)
+pub word_of-requires-in-Insert : goal.word_of-requires-in-Insert
+word_of-requires-in-Insert c = (omega arith, omega (arith, fits-short _ c.args.q.now c.in-Insert.is c.requires.q_value))
+
+pub write_path_words-requires : goal.write_path_words-requires
+write_path_words-requires c =
+    let short = fits-short _ c.args.q.now c.in-Insert.is c.requires.q_value in
+    (short, simp length-set (omega arith))
 
 pub returns-in-Insert : goal.returns-in-Insert
+unfolding path_part
 returns-in-Insert c =
-    let n = c.args.number in
-    let h = c.head_word.ensures ∙ ap (λ (j : ℕ). head_word j n) c.insert_number.ensures in
-    appends-as (insert-words _ n _ c.word_of-before.ensures c.in-Insert.is h) c.write_with_path.ensures
+    let a = c.args in
+    let w = c.write_path_words.ensures in
+    appends-as (path-record _ a.q.now a.run a.number (c.in-Some.ensures.number _) c.in-Insert.is)
+    (record {
+      content =
+          w.content
+          ∙ rw (c.word_of.ensures, c.word_of-2.ensures, c.word_of-in-Insert.ensures) (three-before a.words.now a.at _ _ _ _ (omega arith));
+      end = w.end ∙ omega arith;
+    })
 
 pub returns-in-SetSwitches : goal.returns-in-SetSwitches
 returns-in-SetSwitches c =
-    appends-as (switches-words _ _ _ c.word_of-before.ensures c.in-SetSwitches.is c.head_word-in-SetSwitches.ensures) c.write_with_switches.ensures
-
-pub returns-in-Revoke : goal.returns-in-Revoke
-returns-in-Revoke c =
-    appends-as (revoke-words _ _ _ c.word_of-before.ensures c.in-Revoke.is c.head_word-in-Revoke.ensures) c.write_with_path-in-Revoke.ensures
+    let a = c.args in
+    appends-as (switches-record _ a.q.now a.run a.number (c.in-Some.ensures.number _) c.in-SetSwitches.is)
+    (record {
+      content = rw (c.word_of.ensures, c.word_of-2.ensures, c.word_of-in-SetSwitches.ensures, c.from.ensures) (three-stores a.words.now a.at _ _ _ (omega arith));
+      end = refl;
+    })
 
 pub returns-in-RevokeAll : goal.returns-in-RevokeAll
 returns-in-RevokeAll c =
-    appends-as (revoke-all-words _ _ _ c.word_of-before.ensures c.in-RevokeAll.is c.head_word-in-RevokeAll.ensures) c.write_alone.ensures
+    let a = c.args in
+    appends-as (alone-record _ a.q.now a.run a.number (c.in-Some.ensures.number _) c.in-RevokeAll.is)
+    (record { content = rw (c.word_of.ensures, c.word_of-2.ensures) (two-stores a.words.now a.at _ _ (omega arith)); end = refl })

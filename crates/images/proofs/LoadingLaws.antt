@@ -18,7 +18,6 @@ use Rattle.table.proofs.Overwrites.{appends-none, appends-as, appends-more}
 use Rattle.table.proofs.Puts.{encode-fits}
 use Rattle.table.proofs.TableCopies.{put-by}
 use Rattle.records.specs.Records.{Read}
-use Rattle.records.proofs.WrittenLaws.{never}
 use Rattle.images.specs.declared.EntryRead.{EntryRead}
 use Rattle.images.specs.declared.ImageRead.{ImageRead}
 use Rattle.images.specs.Images.{image_head, Image, all_entry_words, image_words, read_entry, with_entry, read_entries, read_image}
@@ -35,7 +34,7 @@ record Split (e : Entry) (o : Option (Read (List Entry))) (es : List Entry) : Ty
 
 split : (e : Entry) (o : Option (Read (List Entry))) {es : List Entry} → with_entry e o ≡ Some (record { value = es; rest = [] }) → Split e o es
 unfolding with_entry
-split e None q = absurd (never q)
+split e None q = cc
 split e (Some r) q =
     let same = Some-injective _ _ q in
     record {
@@ -89,7 +88,7 @@ path-stands {t = t} E s e =
 module _ {ws : List ℕ} {es : List Entry} {m m' : List ℕ} {from at count done : ℕ} (L : Loading ws es m m' from at count done) where
   pub loading-some : done < count → {r : Option EntryRead} → r ≡ entry_answer from (read_entry (drop from ws)) → IsSome r
   loading-some h {r = Some t} e = search rules
-  loading-some h {r = None} e = absurd (never (sym (entries-stop count done (drop from ws) h (told-nothing from _ e)) ∙ L.reads))
+  loading-some h {r = None} e = cc (sym (entries-stop count done (drop from ws) h (told-nothing from _ e)) ∙ L.reads)
 
   module _ {t : EntryRead} (h : done < count) (E : Told ws from t) where
     here : Split E.entry (read_entries (count - (done + 1)) (drop t.end ws)) L.rest

@@ -45,9 +45,6 @@ module _ {t : Table} {size : ℕ} {e : Entry} {left rest : List Entry} (C : Coun
   pub counting-next : {n : ℕ} → n ≡ words_for (length e.path) → Counting t (size + (1 + n)) rest
   counting-next n = record { goes = omega (arith, C.goes, more); most = C.most }
 
-  pub counting-fits : {n : ℕ} → n ≡ words_for (length e.path) → size + (1 + n) ≤ max_image
-  counting-fits n = omega (arith, C.goes, C.most, more)
-
 pub counting-done : {t : Table} {size : ℕ} {left : List Entry} → Counting t size left → left ≡ [] → (size ≡ image_size t) × (size ≤ max_image)
 unfolding all_entry_words
 counting-done {left = left} C e =

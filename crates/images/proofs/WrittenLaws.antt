@@ -20,7 +20,7 @@ use Rattle.table.specs.Memory.{kind_from}
 use Rattle.records.specs.Numbers.{max_number}
 use Rattle.table.proofs.Within.{number-kind}
 use Rattle.records.specs.Records.{act_unit, is_run_word, low_of_word, number_bits, Read, bytes_from, if_resolved}
-use Rattle.records.proofs.WrittenLaws.{never, if_some, run-word, run-right, bytes_read}
+use Rattle.records.proofs.WrittenLaws.{if_some, run-word, run-right, bytes_read}
 use Rattle.images.specs.Images.{
   Image,
   number_kind,
@@ -98,16 +98,16 @@ record OfKind (kind : Kind) (o : Option (Read (List ℕ))) (r : Read Entry) : Ty
 
 of-kind : (kind : Kind) (o : Option (Read (List ℕ))) {r : Read Entry} → with_kind kind (if_resolved o) ≡ Some r → OfKind kind o r
 unfolding with_kind if_resolved
-of-kind kind None e = absurd (never e)
+of-kind kind None e = cc
 of-kind kind (Some p) {r} e = go (is_resolved p.value) refl e
   where
     go : (b : Bool) → is_resolved p.value ≡ b → with_kind kind (cond b (Some p) None) ≡ Some r → OfKind kind (Some p) r
     go true x y = record { p = p; path = refl; resolved = x; whole = Some-injective _ _ y }
-    go false x y = absurd (never y)
+    go false x y = cc
 
 pub entry-written : (ws : List ℕ) {r : Read Entry} → read_entry ws ≡ Some r → EntryWritten ws r
 unfolding read_entry entry_words is_entry is_path
-entry-written [] e = absurd (never e)
+entry-written [] e = cc
 entry-written (w ∷ ws) e =
     let C = if_some (is_entry_word w) e in
     let W = entry-word w C.0 in
@@ -139,11 +139,11 @@ record Then (o : Option (Read Entry)) (more : List ℕ → Option (Read (List En
 
 then-entries : (o : Option (Read Entry)) (more : List ℕ → Option (Read (List Entry))) {r : Read (List Entry)} → then_entries o more ≡ Some r → Then o more r
 unfolding then_entries with_entry
-then-entries None more e = absurd (never e)
+then-entries None more e = cc
 then-entries (Some x) more {r} e = go (more x.rest) refl e
   where
     go : (o : Option (Read (List Entry))) → more x.rest ≡ o → with_entry x.value o ≡ Some r → Then (Some x) more r
-    go None f g = absurd (never g)
+    go None f g = cc
     go (Some es) f g = record { e = x; here = refl; es = es; behind = f; whole = Some-injective _ _ g }
 
 pub entries-written : (n : ℕ) (ws : List ℕ) {r : Read (List Entry)} → read_entries n ws ≡ Some r → EntriesWritten n ws r
@@ -174,7 +174,7 @@ record OfEntries (run number switches marks : ℕ) (o : Option (Read (List Entry
 of-entries : (run number switches marks : ℕ) (o : Option (Read (List Entry))) {i : Image} → with_entries run number switches marks o ≡ Some i
     → OfEntries run number switches marks o i
 unfolding with_entries image_if
-of-entries run number switches marks None e = absurd (never e)
+of-entries run number switches marks None e = cc
 of-entries run number switches marks (Some r) {i} e = go r.value r.rest e
   where
     go : (es : List Entry) (rest : List ℕ) → with_entries run number switches marks (Some (record { value = es; rest = rest })) ≡ Some i
@@ -182,7 +182,7 @@ of-entries run number switches marks (Some r) {i} e = go r.value r.rest e
     go es [] x =
         let C = if_some (is_table (record { entries = es; switches = switches; marks = marks })) x in
         record { es = es; all = refl; within = C.0; whole = Some-injective _ _ C.1 }
-    go es (w ∷ ws) x = absurd (never x)
+    go es (w ∷ ws) x = cc
 
 -- words that are an image's, which can be written
 record ImageWritten (ws : List ℕ) (i : Image) : Type 0 where
@@ -192,8 +192,8 @@ record ImageWritten (ws : List ℕ) (i : Image) : Type 0 where
 -- a run word v, and what follows it
 table-written : (v : ℕ) (ws : List ℕ) {i : Image} → is_run_word v ≡ true → read_table (low_of_word v) ws ≡ Some i → ImageWritten (v ∷ ws) i
 unfolding read_table image_words
-table-written v [] R e = absurd (never e)
-table-written v (w ∷ []) R e = absurd (never e)
+table-written v [] R e = cc
+table-written v (w ∷ []) R e = cc
 table-written v (w ∷ x ∷ ws) R e =
     let C = if_some (is_number_word w && is_table_word x) e in
     let O = of-entries (low_of_word v) (number_bits w) (switches_bits x) (marks_bits x) (read_entries (count_bits x) ws) C.1 in
@@ -208,7 +208,7 @@ table-written v (w ∷ x ∷ ws) R e =
 
 written : (ws : List ℕ) {i : Image} → read_image ws ≡ Some i → ImageWritten ws i
 unfolding read_image
-written [] e = absurd (never e)
+written [] e = cc
 written (w ∷ ws) e = let C = if_some (is_run_word w) e in table-written w ws C.0 C.1
 
 pub image-written : (ws : List ℕ) {i : Image} → read_image ws ≡ Some i → (image_words i ≡ ws)

@@ -16,7 +16,7 @@ use Rattle.paths.specs.Copying.{overwrite, begun}
 use Rattle.paths.specs.Resolving.{max_path, is_resolved}
 use Rattle.paths.proofs.ComponentLaws.{and_left, and_right}
 use Rattle.table.specs.declared.Action.{Action}
-use Rattle.table.specs.declared.Action.TheVariants.{SetSwitches, Revoke, RevokeAll}
+use Rattle.table.specs.declared.Action.TheVariants.{SetSwitches, RevokeAll}
 use Rattle.table.specs.Acts.{set_switches, revoke_all}
 use Rattle.records.specs.declared.PathRead.{PathRead}
 use Rattle.table.specs.Carrying.{action_of}
@@ -25,7 +25,7 @@ use Rattle.records.specs.declared.words.Front.{Front}
 use Rattle.records.specs.Records.{Change, head_kind, length_kind, act_unit, kind_of_word, low_of_word, act_bits, number_bits, is_run_word, is_length, is_switches, act_path, path_words, path_part, act_part, change_words, Read, bytes_from, if_resolved, read_path, with_path, read_switches, read_act, with_number, read_head, read_first}
 use Rattle.records.specs.Answers.{record_answer, record_into, ReadsRecord}
 use Rattle.records.specs.Words.{first_word, behind_first, front_at}
-use Rattle.records.specs.Steps.{words_for, word_bytes, run_of, length_of, path_behind, path_answer, path_into, ReadsPath, path_act, switches_record}
+use Rattle.records.specs.Steps.{words_for, word_bytes, run_of, length_of, switches_of, path_behind, path_answer, path_into, ReadsPath, path_act}
 use Rattle.records.proofs.WordLaws.{of-run, Headed, run_alone}
 use Rattle.records.proofs.RecordLaws.{path-count, with-number}
 use Rattle.records.proofs.SpellingLaws.{spelled, bytes_count, bytes-short, bytes-other, spelled-length, bytes-spelled}
@@ -149,15 +149,6 @@ module _ (ws : List ℕ) (at : ℕ) (next : Option ℕ) where
 -- ---- an act that takes a path
 
 module _ (q : List ℕ) where
-  pub action-rest : (k : ℕ) → (1 ≤ k → 5 ≤ k) → Revoke ≡ action_of (Some (path_act k q))
-  unfolding path_act action_of
-  action-rest zero h = refl
-  action-rest (suc zero) h = absurd (omega (arith, h (omega arith)))
-  action-rest (suc (suc zero)) h = absurd (omega (arith, h (omega arith)))
-  action-rest (suc (suc (suc zero))) h = absurd (omega (arith, h (omega arith)))
-  action-rest (suc (suc (suc (suc zero)))) h = absurd (omega (arith, h (omega arith)))
-  action-rest (suc (suc (suc (suc (suc k))))) h = refl
-
   act-path : (k : ℕ) → (act_path (path_act k q) ≡ q) × (act_part (path_act k q) ≡ path_part q)
   unfolding path_act act_path act_part
   act-path zero = (refl, refl)
@@ -216,20 +207,26 @@ reads-behind {from} run number k ws (w ∷ l) {action} {space} {after} {r} e a R
 
 -- ---- an act that takes switches
 
--- they leave the lent space as it is
-pub reads-switches : {from : ℕ} (run number : ℕ) (l space : List ℕ) {r : Option Record} → r ≡ switches_record run number (first_word l) (behind_first l (from + 2)) → 0 < number
-    → ReadsRecord from (with_number run number (read_switches l)) space r space
-unfolding switches_record first_word behind_first read_switches record_answer record_into action_of act_path change_words act_part begun
-reads-switches run number [] space e h = record { answer = rw (no_change run number, e); bytes = rw (no_change run number) }
-reads-switches {from} run number (w ∷ l) space {r} e h = go (is_switches w) e
-  where
-    told : ℕ → Record
-    told end = record { run = run; number = number; action = SetSwitches (low_of_word w); size = 0; end = end }
+-- the record of an act that takes switches, by those that the word behind the head says
+abbrev pub switches_record : ℕ → ℕ → Option ℕ → ℕ → Option Record
+switches_record run number None end = None
+switches_record run number (Some v) end = Some (record { run = run; number = number; action = SetSwitches v; size = 0; end = end })
 
-    go : (b : Bool) → r ≡ cond b (Some (told (from + 2 + 1))) None
-        → ReadsRecord from (with_number run number (cond b (Some (record { value = set_switches (low_of_word w); rest = l })) None)) space r space
-    go true f = let o = with-number run number (set_switches (low_of_word w)) l h in record { answer = f ∙ rw o (ap (λ (end : ℕ). Some (told end)) (omega arith)); bytes = rw o }
-    go false f = record { answer = rw (f, no_change run number); bytes = rw (no_change run number) }
+-- they leave the lent space as it is
+pub reads-switches : {from : ℕ} (run number : ℕ) (l space : List ℕ) {v : Option ℕ} → v ≡ switches_of (first_word l) → 0 < number
+    → ReadsRecord from (with_number run number (read_switches l)) space (switches_record run number v (behind_first l (from + 2))) space
+unfolding switches_of first_word behind_first read_switches record_answer record_into action_of act_path change_words act_part begun
+reads-switches run number [] space e h = record { answer = rw (e, no_change run number); bytes = rw (no_change run number) }
+reads-switches {from} run number (w ∷ l) space {v} e h = rw e (go (is_switches w))
+  where
+    go : (b : Bool)
+        → ReadsRecord from (with_number run number (cond b (Some (record { value = set_switches (low_of_word w); rest = l })) None)) space
+        (switches_record run number (cond b (Some (low_of_word w)) None) (from + 2 + 1)) space
+    go true =
+        let o = with-number run number (set_switches (low_of_word w)) l h in
+        let end : from + 2 + 1 ≡ from + 3 = omega arith in
+        record { answer = rw (o, end); bytes = rw o }
+    go false = record { answer = rw (no_change run number); bytes = rw (no_change run number) }
 
 -- ---- a head
 
@@ -325,12 +322,12 @@ module _ {ws : List ℕ} {from run w : ℕ} {f : Front} (H : Headed ws from run 
         (reads-behind run (number_bits w) (t % 16) ws (drop (from + 2) ws) refl a
         (subst (λ (g : Option ℕ × ℕ). ReadsPath g.1 (path_behind g.0 (drop g.1 ws)) space p after) (λ i. (H.next i, H.behind i)) R) (omega arith))
 
-    pub headed-switches : {space : List ℕ} {r : Option Record} → w / act_unit ≡ 21 → r ≡ switches_record run (number_bits w) f.next f.at
-        → ReadsRecord from (read_first (drop from ws)) space r space
+    pub headed-switches : {space : List ℕ} {v : Option ℕ} → w / act_unit ≡ 21 → v ≡ switches_of f.next
+        → ReadsRecord from (read_first (drop from ws)) space (switches_record run (number_bits w) v f.at) space
     unfolding read_act
     headed-switches {space} e a =
         headed-as (head-by run w (drop (from + 2) ws) 5 (omega arith) e)
-        (reads-switches run (number_bits w) (drop (from + 2) ws) space (a ∙ (λ i. switches_record run (number_bits w) (H.next i) (H.behind i))) (omega arith))
+        (rw H.behind (reads-switches run (number_bits w) (drop (from + 2) ws) space (a ∙ ap switches_of H.next) (omega arith)))
 
     pub headed-revoke-all : {space : List ℕ} → w / act_unit ≡ 23
         → ReadsRecord from (read_first (drop from ws)) space

@@ -17,7 +17,7 @@ use Rattle.table.specs.Tables.{is_entry}
 use Rattle.table.specs.Acts.{Act, is_act}
 use Rattle.table.specs.Carrying.{act_of, fits}
 use Rattle.table.proofs.Overwrites.{over-sets, over-above}
-use Rattle.records.specs.Records.{switches_kind, word_of, insert_number, act_number, run_word, head_word, path_part, act_part, change_words}
+use Rattle.records.specs.Records.{switches_kind, word_of, act_number, run_word, head_word, path_part, act_part, change_words}
 use Rattle.records.specs.Answers.{record_words}
 use Rattle.records.proofs.RecordLaws.{path-short}
 

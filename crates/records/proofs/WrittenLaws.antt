@@ -5,8 +5,7 @@ use mathlib.Core.Path.{◌≡◌, refl, sym, ap, subst, ◌∙◌}
 use mathlib.Core.List.{List, [], ◌∷◌, ◌++◌, append-nil}
 use mathlib.Core.Bool.{Bool, true, false, ◌&&◌, cond}
 use native.Mathlib.Omega.{arith}
-use lib.ListN.{length, drop, length-append}
-use lib.Seq.{drop-append_seam, drop-drop}
+use lib.ListN.{length, length-append}
 use lib.Dec.{leb, eqb}
 use borrow.Author.Tests.{eqb-true, le-leb}
 use Rattle.paths.specs.Components.{Bytes}
@@ -66,12 +65,9 @@ use Rattle.records.specs.Records.{
 
 -- ---- what was read, if something was
 
-pub never : {A : Type 0} {a : A} → None ≡ Some a → ⊥
-never e = let z : ◌≡◌ {A = ℕ} 0 1 = cc in omega arith
-
 pub if_some : {A : Type 0} (b : Bool) {o : Option A} {a : A} → cond b o None ≡ Some a → (b ≡ true) × (o ≡ Some a)
 if_some true e = (refl, e)
-if_some false e = absurd (never e)
+if_some false e = cc
 
 -- ---- words are what was read of them
 
@@ -113,8 +109,8 @@ record WithBytes (b : Bool) (p : List ℕ) (o : Option (Read (List ℕ))) (r : R
 with-bytes : (b : Bool) (p : List ℕ) (o : Option (Read (List ℕ))) (r : Read (List ℕ)) → with_bytes b p o ≡ Some r → WithBytes b p o r
 unfolding with_bytes
 with-bytes true p (Some q) r e = record { good = refl; q = q; behind = refl; whole = cc }
-with-bytes true p None r e = absurd (never e)
-with-bytes false p o r e = absurd (never e)
+with-bytes true p None r e = cc
+with-bytes false p o r e = cc
 
 -- from its bytes and what follows
 path-is : {n : ℕ} {ws : List ℕ} {r : Read (List ℕ)} (p rest : List ℕ) → r ≡ record { value = p; rest = rest } → length p ≡ n
@@ -168,11 +164,11 @@ path-three n w ws r W R =
 pub bytes_read : (n : ℕ) (ws : List ℕ) (r : Read (List ℕ)) → bytes_from n ws ≡ Some r → PathWritten n ws r
 unfolding bytes_from
 bytes_read zero ws r e = path-none ws r e
-bytes_read (suc zero) [] r e = absurd (never e)
+bytes_read (suc zero) [] r e = cc
 bytes_read (suc zero) (w ∷ ws) r e = path-one w ws r (with-bytes _ _ _ r e)
-bytes_read (suc (suc zero)) [] r e = absurd (never e)
+bytes_read (suc (suc zero)) [] r e = cc
 bytes_read (suc (suc zero)) (w ∷ ws) r e = path-two w ws r (with-bytes _ _ _ r e)
-bytes_read (suc (suc (suc n))) [] r e = absurd (never e)
+bytes_read (suc (suc (suc n))) [] r e = cc
 bytes_read (suc (suc (suc n))) (w ∷ ws) r e =
     let W = with-bytes (is_path_word w) (first w ∷ second w ∷ third w ∷ []) (bytes_from n ws) r e in
     path-three n w ws r W (bytes_read n ws W.q W.behind)
@@ -181,7 +177,7 @@ bytes_read (suc (suc (suc n))) (w ∷ ws) r e =
 
 resolved-some : (o : Option (Read (List ℕ))) (r : Read (List ℕ)) → if_resolved o ≡ Some r → (o ≡ Some r) × (is_resolved r.value ≡ true)
 unfolding if_resolved
-resolved-some None r e = absurd (never e)
+resolved-some None r e = cc
 resolved-some (Some q) r e =
     let C = if_some (is_resolved q.value) e in
     let same : q ≡ r = cc C.1 in
@@ -194,7 +190,7 @@ record PathPart (ws : List ℕ) (r : Read (List ℕ)) : Type 0 where
 
 path-read : (ws : List ℕ) (r : Read (List ℕ)) → read_path ws ≡ Some r → PathPart ws r
 unfolding read_path path_part is_length is_path
-path-read [] r e = absurd (never e)
+path-read [] r e = cc
 path-read (w ∷ ws) r e =
     let C = if_some (is_length w) e in
     let O = resolved-some _ r C.1 in
@@ -239,7 +235,7 @@ unfolding with_path
 path-act {k} f F ws r e = go (read_path ws) refl e
   where
     go : (o : Option (Read (List ℕ))) → read_path ws ≡ o → with_path f o ≡ Some r → ActRead k ws r
-    go None x y = absurd (never y)
+    go None x y = cc
     go (Some p) x y =
         let R = path-read ws p x in
         act-is (f p.value) p.rest (cc) (F.number p.value) (R.words ∙ ap (λ (l : List ℕ). l ++ p.rest) (F.part p.value))
@@ -247,7 +243,7 @@ path-act {k} f F ws r e = go (read_path ws) refl e
 
 switches-read : (ws : List ℕ) (r : Read Act) → read_switches ws ≡ Some r → ActRead 5 ws r
 unfolding read_switches is_switches act_number act_part is_act act_path
-switches-read [] r e = absurd (never e)
+switches-read [] r e = cc
 switches-read (w ∷ ws) r e =
     let C = if_some (is_switches w) e in
     act-is (set_switches (low_of_word w)) ws (cc C.1) refl (ap (λ (k : ℕ). k ∷ ws) (kind-word w 4 (and_left (eqb (kind_of_word w) 4) _ C.0)))
@@ -263,7 +259,7 @@ of-revoke = record { number = λ p. refl; part = λ p. refl; fits = λ p. refl; 
 
 act-read : (k : ℕ) (ws : List ℕ) (r : Read Act) → read_act k ws ≡ Some r → ActRead k ws r
 unfolding read_act act_number act_part is_act act_path
-act-read zero ws r e = absurd (never e)
+act-read zero ws r e = cc
 act-read (suc zero) ws r e = path-act (insert_of G) (of-insert G) ws r e
 act-read (suc (suc zero)) ws r e = path-act (insert_of D) (of-insert D) ws r e
 act-read (suc (suc (suc zero))) ws r e = path-act (insert_of I) (of-insert I) ws r e
@@ -271,7 +267,7 @@ act-read (suc (suc (suc (suc zero)))) ws r e = path-act (insert_of P) (of-insert
 act-read (suc (suc (suc (suc (suc zero))))) ws r e = switches-read ws r e
 act-read (suc (suc (suc (suc (suc (suc zero)))))) ws r e = path-act revoke of-revoke ws r e
 act-read (suc (suc (suc (suc (suc (suc (suc zero))))))) ws r e = act-is revoke_all ws (cc) refl refl refl bytes-none
-act-read (suc (suc (suc (suc (suc (suc (suc (suc n)))))))) ws r e = absurd (never e)
+act-read (suc (suc (suc (suc (suc (suc (suc (suc n)))))))) ws r e = cc
 
 -- ---- a record
 
@@ -283,8 +279,8 @@ record NumberRead (run n : ℕ) (o : Option (Read Act)) (r : Read Change) : Type
 
 number_read : (run n : ℕ) (o : Option (Read Act)) (r : Read Change) → with_number run n o ≡ Some r → NumberRead run n o r
 unfolding with_number
-number_read run zero o r e = absurd (never e)
-number_read run (suc n) None r e = absurd (never e)
+number_read run zero o r e = cc
+number_read run (suc n) None r e = cc
 number_read run (suc n) (Some a) r e = record { some_number = omega arith; a = a; behind = refl; whole = cc }
 
 -- words that begin with a record are the writing of what was read, and what follows
@@ -295,7 +291,7 @@ pub record Written (ws : List ℕ) (r : Read Change) : Type 0 where
 -- a run word v, and a head with what its act takes
 written-head : (v : ℕ) (ws : List ℕ) (r : Read Change) → is_run_word v ≡ true → read_head (low_of_word v) ws ≡ Some r → Written (v ∷ ws) r
 unfolding read_head change_words
-written-head v [] r R e = absurd (never e)
+written-head v [] r R e = cc
 written-head v (w ∷ ws) r R e =
     let C = if_some (eqb (kind_of_word w) 1) e in
     let N = number_read (low_of_word v) (number_bits w) (read_act (act_bits w) ws) r C.1 in
@@ -313,13 +309,13 @@ written-head v (w ∷ ws) r R e =
 
 pub written-first : (ws : List ℕ) (r : Read Change) → read_first ws ≡ Some r → Written ws r
 unfolding read_first
-written-first [] r e = absurd (never e)
+written-first [] r e = cc
 written-first (w ∷ ws) r e = let C = if_some (is_run_word w) e in written-head w ws r C.0 C.1
 
 ended_by_lem : (c : Change) (rest : List ℕ) (d : Change) → ended_by c rest ≡ Some d → (c ≡ d) × (rest ≡ [])
 unfolding ended_by
 ended_by_lem c [] d e = (cc, refl)
-ended_by_lem c (w ∷ ws) d e = absurd (never e)
+ended_by_lem c (w ∷ ws) d e = cc
 
 ended-none : (c : Change) (rest : List ℕ) → length rest ≡ 0 → ended_by c rest ≡ Some c
 unfolding ended_by
@@ -333,7 +329,7 @@ ended_some c (w ∷ ws) z = refl
 
 ended_at : (o : Option (Read Change)) (c : Change) → ended o ≡ Some c → o ≡ Some (record { value = c; rest = [] })
 unfolding ended
-ended_at None c e = absurd (never e)
+ended_at None c e = cc
 ended_at (Some r) c e =
     let E = ended_by_lem r.value r.rest c e in
     λ i. Some (record { value = E.0 i; rest = E.1 i })
@@ -346,11 +342,6 @@ written_back ws c e =
     (W.words ∙ append-nil (change_words c), W.readable)
 
 -- ---- where a record ends
-
-pub rest_at : (ws : List ℕ) (from : ℕ) (r : Read Change) → read_first (drop from ws) ≡ Some r → r.rest ≡ drop (from + length (change_words r.value)) ws
-rest_at ws from r e =
-    let c = change_words r.value in
-    sym (drop-append_seam c r.rest) ∙ ap (drop (length c)) (sym (written-first (drop from ws) r e).words) ∙ drop-drop (length c) from ws
 
 -- words are one record, by whether the one that they begin with ends where they end
 module _ (ws : List ℕ) where

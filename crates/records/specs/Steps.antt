@@ -1,12 +1,27 @@
--- Steps of reading a record: a length, the bytes that words hold, a path, and what a head that takes a path or switches comes to.
+-- Steps of reading a record: what a word says, the bytes that words hold, a path, and the act of a head that takes one.
 use Rattle.std.specs.Prelude.{ℕ, zero, suc, ◌+◌, ◌/◌, ◌≡◌, List, [], ◌∷◌, cond, length, Option, None, Some}
 use Rattle.paths.specs.Copying.{begun}
 use Rattle.table.specs.declared.Kind.TheVariants.{G, D, P, I}
-use Rattle.table.specs.declared.Action.TheVariants.{SetSwitches}
 use Rattle.table.specs.Acts.{Act, revoke}
 use Rattle.records.specs.declared.PathRead.{PathRead}
-use Rattle.records.specs.declared.Record.{Record}
 use Rattle.records.specs.Records.{Read, path_words, is_run_word, is_length, is_switches, low_of_word, insert_of, first, second, third, read_path}
+
+-- ---- words that say a number
+
+-- the run that a word says, if it says one
+unfoldable pub run_of : Option ℕ → Option ℕ
+run_of None = None
+run_of (Some w) = cond (is_run_word w) (Some (low_of_word w)) None
+
+-- the length that a word says, if it says one
+unfoldable pub length_of : Option ℕ → Option ℕ
+length_of None = None
+length_of (Some w) = cond (is_length w) (Some (low_of_word w)) None
+
+-- the switches that a word says, if it says some
+unfoldable pub switches_of : Option ℕ → Option ℕ
+switches_of None = None
+switches_of (Some w) = cond (is_switches w) (Some (low_of_word w)) None
 
 -- ---- a path's words by their places
 
@@ -20,11 +35,6 @@ word_bytes [] = []
 word_bytes (w ∷ ws) = first w ∷ second w ∷ third w ∷ word_bytes ws
 
 -- ---- reading a path
-
--- the length that a word says, if it says one
-unfoldable pub length_of : Option ℕ → Option ℕ
-length_of None = None
-length_of (Some w) = cond (is_length w) (Some (low_of_word w)) None
 
 -- the path whose length a word says, from the words behind that word
 unfoldable pub path_behind : Option ℕ → List ℕ → Option (Read (List ℕ))
@@ -45,14 +55,7 @@ pub record ReadsPath (at : ℕ) (path : Option (Read (List ℕ))) (space : List 
   pub answer : r ≡ path_answer at path
   pub bytes : after ≡ path_into path space
 
--- ---- the run
-
--- the run that a word says, if it says one
-unfoldable pub run_of : Option ℕ → Option ℕ
-run_of None = None
-run_of (Some w) = cond (is_run_word w) (Some (low_of_word w)) None
-
--- ---- a record by the word behind its head
+-- ---- an act that takes a path
 
 -- the act of a head that takes a path: 1 to 4 insert, and the other one, 6, revokes
 unfoldable pub path_act : ℕ → List ℕ → Act
@@ -62,9 +65,3 @@ path_act (suc (suc zero)) = insert_of D
 path_act (suc (suc (suc zero))) = insert_of I
 path_act (suc (suc (suc (suc zero)))) = insert_of P
 path_act (suc (suc (suc (suc (suc n))))) = revoke
-
--- the record of a head that takes switches, by the word behind it, and by where the words behind that begin
-unfoldable pub switches_record : ℕ → ℕ → Option ℕ → ℕ → Option Record
-switches_record run number None end = None
-switches_record run number (Some w) end =
-    cond (is_switches w) (Some (record { run = run; number = number; action = SetSwitches (low_of_word w); size = 0; end = end })) None

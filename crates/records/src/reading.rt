@@ -6,7 +6,7 @@ ghost use Rattle.paths.specs.Resolving.{max_path};
 ghost use Rattle.table.specs.Carrying.{action_of};
 ghost use Rattle.records.specs.Records.{path_words, bytes_from, if_resolved, read_first};
 ghost use Rattle.records.specs.Answers.{ReadsRecord};
-ghost use Rattle.records.specs.Steps.{words_for, word_bytes, run_of, length_of, path_behind, ReadsPath, path_act, switches_record};
+ghost use Rattle.records.specs.Steps.{words_for, word_bytes, run_of, length_of, switches_of, path_behind, ReadsPath, path_act};
 
 use crate::words::read_front;
 use crate::writing::{path_word, words_for};
@@ -33,6 +33,19 @@ fn path_length(word: Option<u32>) -> Option<usize>
     let word = word?;
     let n = (word % KIND_UNIT) as usize;
     (word / KIND_UNIT == LENGTH && (1..=MAX_PATH).contains(&n)).then_some(n)
+}
+
+// The switches that a word says, if it is a switches word.
+#[tactic(auto, using(std::proofs::lemmas::Bool::Decides::nat_tests), unfolding(crate::specs::Steps::switches_of, crate::specs::Records::is_switches))]
+fn switches_of(word: Option<u32>) -> Option<u8>
+    ensures { result ≡ switches_of word }
+{
+    let word = word?;
+    let switches = word % KIND_UNIT;
+    if word / KIND_UNIT != SWITCHES || switches > u32::from(MAX_SWITCHES) {
+        return None;
+    }
+    Some(switches as u8)
 }
 
 // Takes three bytes out of each word, whatever its kind.
@@ -115,25 +128,6 @@ fn path_action(act: u8) -> Action
     }
 }
 
-// The record of a head that takes switches, which the word behind it says; the words behind that begin at `end`.
-#[tactic(auto, using(std::proofs::lemmas::Bool::Decides::nat_tests), unfolding(crate::specs::Steps::switches_record, crate::specs::Records::is_switches))]
-fn with_switches(run: u32, number: u64, next: Option<u32>, end: usize) -> Option<Record>
-    ensures { result ≡ switches_record run number next end }
-{
-    let word = next?;
-    let switches = word % KIND_UNIT;
-    if word / KIND_UNIT != SWITCHES || switches > u32::from(MAX_SWITCHES) {
-        return None;
-    }
-    Some(Record {
-        run,
-        number,
-        action: Action::SetSwitches(switches as u8),
-        size: 0,
-        end,
-    })
-}
-
 // Reads the record that the words from a place on begin with, and its path into the lent space. A head's kind and act bits together
 // decide what must follow it.
 pub fn read_record(words: &[u32], from: usize, space: &mut [u8; MAX_PATH]) -> Option<Record>
@@ -147,25 +141,20 @@ pub fn read_record(words: &[u32], from: usize, space: &mut [u8; MAX_PATH]) -> Op
         return None;
     }
     let top = (head / ACT_UNIT) as u8;
-    match top {
+    let (action, size, end) = match top {
         0x11..=0x14 | 0x16 => {
             let path = read_path(words, front.next, front.at, front.left, space)?;
-            Some(Record {
-                run,
-                number,
-                action: path_action(top % 16),
-                size: path.size,
-                end: path.end,
-            })
+            (path_action(top % 16), path.size, path.end)
         }
-        0x15 => with_switches(run, number, front.next, front.at),
-        0x17 => Some(Record {
-            run,
-            number,
-            action: Action::RevokeAll,
-            size: 0,
-            end: from + 2,
-        }),
-        _ => None,
-    }
+        0x15 => (Action::SetSwitches(switches_of(front.next)?), 0, front.at),
+        0x17 => (Action::RevokeAll, 0, from + 2),
+        _ => return None,
+    };
+    Some(Record {
+        run,
+        number,
+        action,
+        size,
+        end,
+    })
 }

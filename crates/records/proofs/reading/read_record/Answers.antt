@@ -18,8 +18,8 @@ returns-then-number-eq0 c =
     let H = front-headed _ _ c.read_front-front.ensures c.in_ok-run.ensures c.in_ok-head.was in
     headed-unnumbered H (omega arith)
 
-pub overflow_add-result : goal.overflow_add-result
-overflow_add-result c =
+pub overflow_add-action : goal.overflow_add-action
+overflow_add-action c =
     let H = front-headed _ _ c.read_front-front.ensures c.in_ok-run.ensures c.in_ok-head.was in
     omega (arith, H.here)
 
@@ -29,10 +29,15 @@ returns-in_err-path-in-17-to-20 c =
     rw c.from_residual-in_err-path-in-17-to-20.ensures
     (headed-path H (λ z. omega arith) _ refl (search rules) c.in_err-path-in-17-to-20.ensures refl)
 
-pub returns-in-21 : goal.returns-in-21
-returns-in-21 c =
+pub returns-in_err-switches_of-in-21 : goal.returns-in_err-switches_of-in-21
+returns-in_err-switches_of-in-21 c =
     let H = front-headed _ _ c.read_front-front.ensures c.in_ok-run.ensures c.in_ok-head.was in
-    headed-switches H (λ z. omega arith) c.in-21.is (rw c.from-number.ensures at c.with_switches.ensures)
+    rw c.from_residual-in_err-switches_of-in-21.ensures (headed-switches H (λ z. omega arith) c.in-21.is c.in_err-switches_of-in-21.ensures)
+
+pub returns-in_ok-switches_of-in-21 : goal.returns-in_ok-switches_of-in-21
+returns-in_ok-switches_of-in-21 c =
+    let H = front-headed _ _ c.read_front-front.ensures c.in_ok-run.ensures c.in_ok-head.was in
+    rw c.from-number.ensures (headed-switches H (λ z. omega arith) c.in-21.is c.in_ok-switches_of-in-21.ensures)
 
 pub returns-in-23 : goal.returns-in-23
 returns-in-23 c =

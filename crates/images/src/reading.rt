@@ -21,7 +21,7 @@ pub(crate) fn read_entry(words: &[u32], at: usize, space: &mut [u8; MAX_PATH]) -
     let read = read_at(words, at);
     let word = read.word?;
     let n = (word % 65536) as usize;
-    if word / ENTRY_UNIT != ENTRY * 1024 || n == 0 || n > MAX_PATH {
+    if word / ENTRY_UNIT != ENTRY * 1024 || !(1..=MAX_PATH).contains(&n) {
         return None;
     }
     let path = read_path_of(words, n, read.at, left_at(words, read.at), space)?;

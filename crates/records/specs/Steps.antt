@@ -1,12 +1,17 @@
 -- Steps of reading a record: what a word says, the bytes that words hold, a path, and the act of a head that takes one.
-use Rattle.std.specs.Prelude.{ℕ, zero, suc, ◌+◌, ◌/◌, ◌≡◌, List, [], ◌∷◌, cond, length, Option, None, Some}
+use Rattle.std.specs.Prelude.{ℕ, zero, suc, ◌+◌, ◌/◌, ◌≡◌, List, [], ◌∷◌, cond, length, eqb, Option, None, Some}
 use Rattle.paths.specs.Copying.{begun}
 use Rattle.table.specs.declared.Kind.TheVariants.{G, D, P, I}
 use Rattle.table.specs.Acts.{Act, revoke}
 use Rattle.records.specs.declared.PathRead.{PathRead}
-use Rattle.records.specs.Records.{Read, path_words, is_run_word, is_length, is_switches, low_of_word, insert_of, first, second, third, read_path}
+use Rattle.records.specs.Records.{Read, path_words, is_run_word, is_length, is_switches, kind_of_word, low_of_word, insert_of, first, second, third, read_path}
 
 -- ---- words that say a number
+
+-- what stands below the kind of a word of that kind
+abbrev pub low_of : ℕ → Option ℕ → Option ℕ
+low_of kind None = None
+low_of kind (Some w) = cond (eqb (kind_of_word w) kind) (Some (low_of_word w)) None
 
 -- the run that a word says, if it says one
 unfoldable pub run_of : Option ℕ → Option ℕ

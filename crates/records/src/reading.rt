@@ -6,7 +6,7 @@ ghost use Rattle.paths.specs.Resolving.{max_path};
 ghost use Rattle.table.specs.Carrying.{action_of};
 ghost use Rattle.records.specs.Records.{path_words, bytes_from, if_resolved, read_first};
 ghost use Rattle.records.specs.Answers.{ReadsRecord};
-ghost use Rattle.records.specs.Steps.{words_for, word_bytes, run_of, length_of, switches_of, path_behind, ReadsPath, path_act};
+ghost use Rattle.records.specs.Steps.{words_for, word_bytes, low_of, run_of, length_of, switches_of, path_behind, ReadsPath, path_act};
 
 use crate::words::read_front;
 use crate::writing::{path_word, words_for};
@@ -15,14 +15,21 @@ use paths::MAX_PATH;
 use paths::resolving::is_resolved;
 use table::{Action, Kind, MAX_SWITCHES};
 
+// What stands below the kind of a word, if it is of that kind.
+fn low_of(word: Option<u32>, kind: u32) -> Option<u32>
+    ensures { result ≡ low_of kind word }
+{
+    let word = word?;
+    (word / KIND_UNIT == kind).then_some(word % KIND_UNIT)
+}
+
 // The run that a word says, if it is a run word.
 #[tactic(auto, using(std::proofs::lemmas::Bool::Decides::nat_tests), unfolding(crate::specs::Steps::run_of, crate::specs::Records::is_run_word))]
 pub fn run_of(word: Option<u32>) -> Option<u32>
     ensures { result ≡ run_of word }
 {
-    let word = word?;
-    let run = word % KIND_UNIT;
-    (word / KIND_UNIT == RUN && run >= 1).then_some(run)
+    let run = low_of(word, RUN)?;
+    (run >= 1).then_some(run)
 }
 
 // The path length that a word says, if it is a length word.
@@ -30,9 +37,8 @@ pub fn run_of(word: Option<u32>) -> Option<u32>
 fn path_length(word: Option<u32>) -> Option<usize>
     ensures { result ≡ length_of word }
 {
-    let word = word?;
-    let n = (word % KIND_UNIT) as usize;
-    (word / KIND_UNIT == LENGTH && (1..=MAX_PATH).contains(&n)).then_some(n)
+    let n = low_of(word, LENGTH)? as usize;
+    (1..=MAX_PATH).contains(&n).then_some(n)
 }
 
 // The switches that a word says, if it is a switches word.
@@ -40,12 +46,8 @@ fn path_length(word: Option<u32>) -> Option<usize>
 fn switches_of(word: Option<u32>) -> Option<u8>
     ensures { result ≡ switches_of word }
 {
-    let word = word?;
-    let switches = word % KIND_UNIT;
-    if word / KIND_UNIT != SWITCHES || switches > u32::from(MAX_SWITCHES) {
-        return None;
-    }
-    Some(switches as u8)
+    let switches = u8::try_from(low_of(word, SWITCHES)?).ok()?;
+    (switches <= MAX_SWITCHES).then_some(switches)
 }
 
 // Takes three bytes out of each word, whatever its kind.

@@ -8,10 +8,8 @@ use lib.ListN.{length, set}
 use Rattle.paths.specs.Copying.{overwrite, begun, Appends}
 use Rattle.paths.specs.Resolving.{max_path}
 use Rattle.table.specs.Entries.{Entry}
-use Rattle.table.specs.Tables.{Table, is_entry}
-use Rattle.table.specs.Memory.{table_of, holds}
+use Rattle.table.specs.Tables.{Table, is_entry, is_table}
 use Rattle.table.proofs.Overwrites.{over-sets, over-above, appends-none, appends-as, appends-more}
-use Rattle.table.proofs.Puts.{valid-of}
 use Rattle.records.specs.Steps.{words_for}
 use Rattle.records.proofs.RecordLaws.{path-short}
 use Rattle.records.proofs.ReadingLaws.{over-start}
@@ -34,9 +32,9 @@ pub record Counting (t : Table) (size : ℕ) (left : List Entry) : Type 0 where
   pub goes : size + length (all_entry_words left) ≡ image_size t
   pub most : image_size t ≤ max_image
 
-pub counting-start : (m : List ℕ) {left : List Entry} → holds m ≡ true → left ≡ (table_of m).entries → Counting (table_of m) image_head left
+pub counting-start : (t : Table) {left : List Entry} → is_table t ≡ true → left ≡ t.entries → Counting t image_head left
 unfolding image_size
-counting-start m h e = record { goes = rw e; most = few_words (table_of m) (valid-of m h) }
+counting-start t h e = record { goes = rw e; most = few_words t h }
 
 module _ {t : Table} {size : ℕ} {e : Entry} {left rest : List Entry} (C : Counting t size left) (next : left ≡ e ∷ rest) where
   more : length (all_entry_words left) ≡ 1 + words_for (length e.path) + length (all_entry_words rest)

@@ -1,8 +1,7 @@
 // Writing the image of a table: how many words it takes, and the words.
-ghost use Rattle.std.specs.Prelude.{◌≡◌, true, ◌+◌, ◌≤◌, length};
+ghost use Rattle.std.specs.Prelude.{◌≡◌, ◌+◌, ◌≤◌, length};
 ghost use Rattle.paths.specs.Copying.{begun, Appends};
 ghost use Rattle.table.specs.Held.{entry_of};
-ghost use Rattle.table.specs.Memory.{table_of, holds};
 ghost use Rattle.records.specs.Numbers.{max_run, max_number};
 ghost use Rattle.images.specs.Images.{entry_words, image_words, image_size, max_image};
 
@@ -12,12 +11,11 @@ use records::writing::{word_of, words_for, write_path_words};
 use table::held::{Entry, Table};
 
 // How many words the image of a table takes.
-pub fn image_size(mem: &[u8]) -> usize
-    requires { holds mem.now ≡ true }
-    ensures { (result ≡ image_size (table_of mem.now)) × (result ≤ max_image) }
+pub fn image_size(table: &Table<'_>) -> usize
+    ensures { (result ≡ image_size table.now) × (result ≤ max_image) }
 {
     let mut size = IMAGE_HEAD;
-    for entry in Table::of(mem).entries() {
+    for entry in table.entries() {
         size += 1 + words_for(entry.path.len());
     }
     size
@@ -34,11 +32,10 @@ fn write_entry(words: &mut [u32], at: usize, entry: Entry) -> usize
 }
 
 // Writes the image of a table under its run and a number, from the start of words that have room for it.
-pub fn write_image(mem: &[u8], run: u32, number: u64, words: &mut [u32])
-    requires { (holds mem.now ≡ true) × (run ≤ max_run) × (number ≤ max_number) × (image_size (table_of mem.now) ≤ length words.old) }
-    ensures { words.new ≡ begun (image_words (record { run = run; number = number; table = table_of mem.now })) words.old }
+pub fn write_image(table: &Table<'_>, run: u32, number: u64, words: &mut [u32])
+    requires { (run ≤ max_run) × (number ≤ max_number) × (image_size table.now ≤ length words.old) }
+    ensures { words.new ≡ begun (image_words (record { run = run; number = number; table = table.now })) words.old }
 {
-    let table = Table::of(mem);
     let low = table.count() as u32 * 256
         + u32::from(table.marks()) * 32
         + u32::from(table.switches());

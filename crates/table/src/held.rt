@@ -1,6 +1,6 @@
 // A table that lent memory holds, to be read. Who has one knows that the memory holds a table: it was tested when this was made.
 ghost use Rattle.std.specs.Prelude.{◌≡◌, true, ◌<◌, ◌≤◌, length};
-ghost use Rattle.table.specs.Tables.{max_entries, max_switches, has, is_entry};
+ghost use Rattle.table.specs.Tables.{max_entries, max_switches, has, is_entry, is_table};
 ghost use Rattle.table.specs.Acts.{overflows};
 ghost use Rattle.table.specs.Memory.{table_bytes, table_of, holds};
 ghost use Rattle.table.specs.Listing.{used_bytes};
@@ -82,9 +82,10 @@ impl<'a> Table<'a> {
         entry_offset(self.mem, word_at(self.mem, 0))
     }
 
-    // Its entries, in list order.
+    // Its entries, in list order. A table keeps to the limits.
     pub fn entries(&self) -> Entries<'a>
-        ensures { result ≡ self.now.entries }
+        ensures list { result ≡ self.now.entries }
+        ensures limits { is_table self.now ≡ true }
     {
         Entries {
             mem: self.mem,

@@ -1,13 +1,11 @@
-use mathlib.Core.Path.{ap, ◌∙◌}
+use mathlib.Core.Path.{◌∙◌}
 use Rattle.table.specs.Held.{entry_of}
-use Rattle.table.specs.Tables.{Table}
 use Rattle.images.proofs.WritingLaws.{path-fits, counting-start, counting-next, counting-done}
 use Rattle.images.proofs.writing.image_size.Goals as goal
 
 pub loop-entry-init : goal.loop-entry-init
 loop-entry-init c =
-    counting-start _ c.requires
-    (c.into_iter-entry-iterator.ensures.into_iter_gives ∙ c.entries-entry-items.ensures ∙ ap (λ (t : Table). t.entries) c.of.ensures)
+    counting-start _ c.entries-entry-items.ensures.limits (c.into_iter-entry-iterator.ensures.into_iter_gives ∙ c.entries-entry-items.ensures.list)
 
 pub words_for-requires : goal.words_for-requires
 words_for-requires c = path-fits (entry_of c.in-Some.entry) c.in-Some.entry.sound

@@ -1,7 +1,6 @@
-use mathlib.Core.Path.{refl, ap, ◌∙◌}
+use mathlib.Core.Path.{refl, ◌∙◌}
 use native.Mathlib.Omega.{arith}
 use lib.ListN.{length-set}
-use Rattle.table.specs.Tables.{Table}
 use Rattle.images.specs.Images.{image_words, image_size}
 use Rattle.images.proofs.WritingLaws.{writing_start, writing-fits, writing-next, writing-done}
 use Rattle.images.proofs.writing.write_image.Goals as goal
@@ -20,8 +19,8 @@ bounds-words-2 c = simp length-set (omega arith)
 
 pub loop-entry-init : goal.loop-entry-init
 loop-entry-init c =
-    writing_start _ _ (simp length-set c.requires.3)
-    (c.into_iter-entry-iterator.ensures.into_iter_gives ∙ c.entries-entry-items.ensures ∙ ap (λ (t : Table). t.entries) c.of-table.ensures)
+    writing_start _ _ (simp length-set c.requires.2)
+    (c.into_iter-entry-iterator.ensures.into_iter_gives ∙ c.entries-entry-items.ensures.list)
 
 pub write_entry-at-requires : goal.write_entry-at-requires
 write_entry-at-requires c = writing-fits c.loop-entry.invariant c.in-Some.ensures.steps
@@ -42,5 +41,4 @@ returns c =
       c.switches.ensures.0,
       c.marks.ensures.0,
       c.count.ensures.0,
-      c.of-table.ensures,
     )

@@ -1,6 +1,6 @@
 // Carrying out the act of a call and, where it is linked, recording it. Scope, "A call comes in", and "Handover, at the top".
 ghost use Rattle.std.specs.Prelude.{◌≡◌, true, List, ℕ, ◌<◌};
-ghost use Rattle.table.specs.Memory.{table_of, holds};
+ghost use Rattle.table.specs.Memory.{holds};
 ghost use Rattle.table.specs.Carrying.{act_of, fits};
 ghost use Rattle.records.specs.Numbers.{max_number};
 ghost use Rattle.link.specs.declared.Link.TheVariants.{Linked};
@@ -13,17 +13,16 @@ use records::writing::write_record;
 use refusals::Refusal;
 use table::Action;
 use table::carrying::carry_out;
-use table::placing::overflows;
+use table::held::Table;
 
 // Why an act is refused for which no number is left: an insert with no room comes first.
-fn without_number(mem: &[u8], action: Action, q: &[u8]) -> Result<(), Refusal>
-    requires { holds mem.now ≡ true }
-    ensures { result ≡ no_number (table_of mem.now) (act_of action q.now) }
+fn without_number(table: &Table<'_>, action: Action, q: &[u8]) -> Result<(), Refusal>
+    ensures { result ≡ no_number table.now (act_of action q.now) }
 {
     match action {
         Action::Nothing => Ok(()),
         Action::Insert(kind) => {
-            if overflows(mem, kind, q) {
+            if table.overflows(kind, q) {
                 Err(Refusal::TableFull)
             } else {
                 Err(Refusal::NumbersUsedUp)
@@ -68,7 +67,7 @@ fn perform_linked(
     ensures { Performs (Linked run) (act_of action q.now) (lent mem.old number.old words.old) at (lent mem.new number.new words.new) result }
 {
     if *number >= MAX_NUMBER {
-        without_number(mem, action, q)?;
+        without_number(&Table::of(mem), action, q)?;
         return Ok(at);
     }
     carry_out(mem, action, q)?;

@@ -1,13 +1,15 @@
 -- Laws of the steps of a checking order on a table, and of the call that makes a fresh one.
 use Rattle.std.specs.Prelude.{Ok, Err}
 use Prim.Native.Nat.{ℕ, ◌≤◌, ◌<◌}
-use mathlib.Core.Path.{◌≡◌, ◌∙◌}
-use mathlib.Core.List.{List}
-use mathlib.Core.Bool.{true, false}
+use mathlib.Core.Path.{◌≡◌, refl, ◌∙◌}
+use mathlib.Core.List.{List, [], ◌∷◌}
+use mathlib.Core.Bool.{Bool, true, false, not}
+use native.Mathlib.Omega.{arith}
 use lib.ListN.{length}
 use borrow.Author.Tests.{lt-ltb, le-ltb}
+use Rattle.refusals.specs.declared.Refusal.{Refusal}
 use Rattle.refusals.specs.declared.Refusal.TheVariants.{NoTable}
-use Rattle.refusals.specs.Refusals.{first_cause, Result, and_then, unless, cause_of}
+use Rattle.refusals.specs.Refusals.{when, first_cause, Result, and_then, unless, cause_of}
 use Rattle.refusals.proofs.CauseLaws.{Hands}
 use Rattle.paths.specs.Copying.{overwrite}
 use Rattle.table.specs.Tables.{Table, fresh}
@@ -38,6 +40,25 @@ module _ (m : List ℕ) where
   pub fresh-long : table_bytes ≤ length m → fresh_in m ≡ Ok fresh
   unfolding fresh_in first_cause unless
   fresh-long h = rw (le-ltb _ _ h)
+
+-- what the first step tells, of memory and of what it hands on
+none-by : (b : Bool) (t : Table) {cause : Refusal} → unless (first_cause (when (not b) NoTable ∷ [])) t ≡ Err cause → (b ≡ false) × (cause ≡ NoTable)
+unfolding first_cause unless
+none-by true t e = let z : ◌≡◌ {A = ℕ} 0 1 = cc in absurd (omega arith)
+none-by false t e = (refl, cc)
+
+held-by : (b : Bool) (t : Table) {u : Table} → unless (first_cause (when (not b) NoTable ∷ [])) t ≡ Ok u → (b ≡ true) × (t ≡ u)
+unfolding first_cause unless
+held-by true t e = (refl, cc)
+held-by false t e = let z : ◌≡◌ {A = ℕ} 0 1 = cc in absurd (omega arith)
+
+pub no-table-told : (m : List ℕ) {cause : Refusal} → table_in m ≡ Err cause → (holds m ≡ false) × (cause ≡ NoTable)
+unfolding table_in
+no-table-told m e = none-by (holds m) (table_of m) e
+
+pub table-told : (m : List ℕ) {t : Table} → table_in m ≡ Ok t → (holds m ≡ true) × (table_of m ≡ t)
+unfolding table_in
+table-told m e = held-by (holds m) (table_of m) e
 
 -- ---- a fresh table
 

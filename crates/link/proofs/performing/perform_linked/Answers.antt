@@ -9,10 +9,10 @@ use Rattle.link.proofs.performing.perform_linked.Goals as goal
 pub returns-in_err-without_number : goal.returns-in_err-without_number
 returns-in_err-without_number c =
     let p = err_from_is_err_and c.from_residual.result c.from_residual.ensures.1 in
-    rw (p.1, p.2) (performs-unnumbered refl (omega arith) c.in_err-without_number.ensures)
+    rw (p.1, p.2) (performs-unnumbered refl (omega arith) (rw c.of.ensures at c.in_err-without_number.ensures))
 
 pub returns-then-number-ge-MAX_NUMBER : goal.returns-then-number-ge-MAX_NUMBER
-returns-then-number-ge-MAX_NUMBER c = performs-nothing refl (omega arith) c.in_ok-without_number.ensures
+returns-then-number-ge-MAX_NUMBER c = performs-nothing refl (omega arith) (rw c.of.ensures at c.in_ok-without_number.ensures)
 
 pub returns-in_err-carry_out : goal.returns-in_err-carry_out
 unfolding numbering

@@ -48,7 +48,7 @@ module _ {first m buffer : List ℕ} {r : Held} {left turns : ℕ} (P : Part fir
   part-kept k l = record { input = P.input; so_far = P.so_far; buffered = buffered-kept P.buffered k l; same = P.same }
 
   -- at the input's end
-  pub part_end : {E : Type 0} {m' : List ℕ} {q : Held} → Holds (held_on 0 (standing m r) (take left buffer)) m' q → HoldsInput {E} first m' (Ok q)
+  pub part_end : {E : Type 0} {m' : List ℕ} {q : Held} → Holds (held_on 0 (standing m r) (take left buffer)) m' q → HoldsInput {E = E} first m' (Ok q)
   part_end H =
       let whole : held_on 0 (standing m r) (take left buffer) ≡ held first unnumbered P.input =
       ap (held_on 0 (standing m r)) (P.buffered.rest ∙ sym (append-nil _))

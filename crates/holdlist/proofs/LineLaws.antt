@@ -6,16 +6,12 @@ use mathlib.Core.Bool.{Bool, true, false, cond}
 use native.Mathlib.Omega.{arith}
 use lib.ListN.{length, length-append}
 use Rattle.paths.specs.Copying.{Appends}
-use Rattle.table.specs.declared.Kind.{Kind}
-use Rattle.table.specs.declared.Cursor.{Cursor}
 use Rattle.table.specs.Entries.{Entry}
 use Rattle.table.specs.Tables.{Table, path_bytes}
 use Rattle.table.specs.Memory.{table_of, holds}
-use Rattle.table.specs.Reading.{entries_from, is_at_entry, entry_in, first_entry, next_entry, InList, Reads}
 use Rattle.table.proofs.Overwrites.{appends-none, appends-as}
 use Rattle.table.proofs.TableLaws.{valid-parts}
 use Rattle.table.proofs.Puts.{valid-of}
-use Rattle.table.proofs.ReadingLaws.{first-in, first-from, from-entry, from_end, next-in}
 use Rattle.standby.specs.declared.Numbers.{Numbers}
 use Rattle.standby.specs.Owing.{owed_of}
 use Rattle.text.specs.Text.{newline, labelled, kind_letter}
@@ -72,71 +68,52 @@ module _ (t : Table) (s : Numbers) where
 
 -- ---- entries
 
-pub entry-written : (kind : Kind) (path : List ℕ) (letter : ℕ) {m : List ℕ} {at : ℕ} {m₁ m₂ m₃ : List ℕ} {n₁ n₂ r : ℕ} → letter ≡ kind_letter kind
-    → at + escaped_bytes * length path + line_bytes ≤ length m
-    → Appends (letter ∷ 32 ∷ []) m at m₁ n₁ → Appends (escaped path) m₁ n₁ m₂ n₂ → Appends newline m₂ n₂ m₃ r
-    → Appends (entry_line (record { kind = kind; path = path })) m at m₃ r
+pub entry-written : (e : Entry) (letter : ℕ) {m : List ℕ} {at : ℕ} {m₁ m₂ m₃ : List ℕ} {n₁ n₂ r : ℕ} → letter ≡ kind_letter e.kind
+    → at + escaped_bytes * length e.path + line_bytes ≤ length m
+    → Appends (letter ∷ 32 ∷ []) m at m₁ n₁ → Appends (escaped e.path) m₁ n₁ m₂ n₂ → Appends newline m₂ n₂ m₃ r → Appends (entry_line e) m at m₃ r
 unfolding entry_line
-entry-written kind path letter e h a b c =
-    let l = escaped-long path in
-    rw (sym e) (then (omega arith) (then (omega arith) a b) c)
+entry-written e letter same h a b c =
+    let l = escaped-long e.path in
+    rw (sym same) (then (omega arith) (then (omega arith) a b) c)
 
 entry-long : (e : Entry) → length (entry_line e) ≤ escaped_bytes * length e.path + line_bytes
 unfolding entry_line
 entry-long e = simp length-append (omega (arith, escaped-long e.path))
 
--- the lines so far, with those of the entries from the cursor on after them, are all the lines, and there is room for them
-pub record Lining (m space : List ℕ) (at : ℕ) (space' : List ℕ) (end : ℕ) (c : Cursor) : Type 0 where
+-- the lines so far, with those of the entries that are left after them, are all the lines, and there is room for them
+pub record Lining (entries : List Entry) (space : List ℕ) (at : ℕ) (space' : List ℕ) (end : ℕ) (left : List Entry) : Type 0 where
   pub done : List ℕ
   pub written : Appends done space at space' end
-  pub whole : done ++ entry_lines (entries_from m c) ≡ entry_lines (table_of m).entries
-  pub place : InList m c
-  pub room : end + escaped_bytes * path_bytes (entries_from m c) + line_bytes * length (entries_from m c) ≤ length space
+  pub whole : done ++ entry_lines left ≡ entry_lines entries
+  pub room : end + escaped_bytes * path_bytes left + line_bytes * length left ≤ length space
   pub same : length space' ≡ length space
 
-pub lining-start : (m space : List ℕ) (at : ℕ) {c : Cursor} → c ≡ first_entry m → holds m ≡ true
-    → at + escaped_bytes * path_bytes (table_of m).entries + line_bytes * length (table_of m).entries ≤ length space → Lining m space at space at c
-lining-start m space at e h r =
-    rw e
-    (record {
-      done = [];
-      written = appends-none space at;
-      whole = rw (first-from m);
-      place = first-in m h;
-      room = rw (first-from m) r;
-      same = refl;
-    })
+pub lining-start : (entries : List Entry) (space : List ℕ) (at : ℕ) {left : List Entry} → left ≡ entries
+    → at + escaped_bytes * path_bytes entries + line_bytes * length entries ≤ length space → Lining entries space at space at left
+lining-start entries space at e r = rw e (record { done = []; written = appends-none space at; whole = refl; room = r; same = refl })
 
-module _ {m space : List ℕ} {at : ℕ} {space' : List ℕ} {end : ℕ} {c : Cursor} (L : Lining m space at space' end c) where
-  pub lining-end : is_at_entry c ≡ false → Appends (entry_lines (table_of m).entries) space at space' end
+module _ {entries : List Entry} {space : List ℕ} {at : ℕ} {space' : List ℕ} {end : ℕ} {left : List Entry} (L : Lining entries space at space' end left) where
+  pub lining-end : left ≡ [] → Appends (entry_lines entries) space at space' end
   unfolding entry_lines
-  lining-end e = appends-as (sym (append-nil L.done) ∙ rw (from_end m c e) at L.whole) L.written
+  lining-end e = appends-as (sym (append-nil L.done) ∙ rw e at L.whole) L.written
 
-  module _ (here : is_at_entry c ≡ true) where
-    pub lining-reads : Reads m c
-    lining-reads = record { rest = L.place; more = here }
-
-    pub lining-room : end + escaped_bytes * length (entry_in m c).path + line_bytes ≤ length space'
+  module _ {e : Entry} {rest : List Entry} (next : left ≡ e ∷ rest) where
+    pub lining-room : end + escaped_bytes * length e.path + line_bytes ≤ length space'
     unfolding path_bytes
-    lining-room = omega (arith, rw (from-entry m c here) at L.room, L.same)
+    lining-room = omega (arith, rw next at L.room, L.same)
 
-    pub lining-next : {kind : Kind} {path space'' : List ℕ} {end' : ℕ} {c' : Cursor} → Appends (entry_line (record { kind = kind; path = path })) space' end space'' end'
-        → kind ≡ (entry_in m c).kind → path ≡ (entry_in m c).path → c' ≡ next_entry m c → length space'' ≡ length space' → Lining m space at space'' end' c'
+    pub lining-next : {space'' : List ℕ} {end' : ℕ} → Appends (entry_line e) space' end space'' end' → length space'' ≡ length space'
+        → Lining entries space at space'' end' rest
     unfolding entry_lines path_bytes
-    lining-next A k p n l =
-        let e = entry_in m c in
-        let B = appends-as (λ i. entry_line (record { kind = k i; path = p i })) A in
-        let first = from-entry m c here in
-        let room = rw first at L.room in
-        rw n
-        (record {
+    lining-next A l =
+        let room = rw next at L.room in
+        record {
           done = L.done ++ entry_line e;
-          written = then (omega (arith, L.room)) L.written B;
-          whole = append_assoc L.done (entry_line e) (entry_lines (entries_from m (next_entry m c))) ∙ rw first at L.whole;
-          place = next-in lining-reads;
-          room = omega (arith, room, B.end, entry-long e);
+          written = then (omega (arith, L.room)) L.written A;
+          whole = append_assoc L.done (entry_line e) (entry_lines rest) ∙ rw next at L.whole;
+          room = omega (arith, room, A.end, entry-long e);
           same = l ∙ L.same;
-        })
+        }
 
 -- ---- all that is printed
 

@@ -2,9 +2,9 @@
 ghost use Rattle.std.specs.Prelude.{◌≡◌, true, false, ◌+◌, ◌*◌, ◌≤◌, length};
 ghost use Rattle.paths.specs.Copying.{Appends};
 ghost use Rattle.table.specs.Tables.{path_bytes};
-ghost use Rattle.table.specs.Memory.{table_of, holds};
+ghost use Rattle.table.specs.Memory.{holds};
+ghost use Rattle.table.specs.Held.{entry_of};
 ghost use Rattle.standby.specs.Arriving.{conflict};
-ghost use Rattle.standby.specs.Owing.{owed_of};
 ghost use Rattle.text.specs.Escaping.{escaped_bytes};
 ghost use Rattle.holdlist.specs.Holding.{standing};
 ghost use Rattle.holdlist.specs.Lines.{header_bytes, header, line_bytes, entry_line, entry_lines, stopped_bytes, stopped_line, listing, listing_bytes};
@@ -13,7 +13,8 @@ use crate::Held;
 use paths::copying::append;
 use standby::owing::owed;
 use standby::Numbers;
-use table::{Kind, MAX_ENTRIES, MAX_PATH_BYTES, listing, reading};
+use table::held::{Entry, Table};
+use table::{MAX_ENTRIES, MAX_PATH_BYTES};
 use text::decimals::append_labelled;
 use text::escaping::escape;
 use text::{DECIMAL_DIGITS, ESCAPED_BYTES, kind_letter};
@@ -30,49 +31,37 @@ pub const LISTING_BYTES: usize = LABEL_BYTES
     + ESCAPED_BYTES * MAX_PATH_BYTES
     + LINE_BYTES * MAX_ENTRIES;
 
-// How many changes are owed, where the numbers are a standby's.
-fn count_owed(numbers: Numbers) -> u64
-    requires { conflict numbers ≡ false }
-    ensures { result ≡ owed_of numbers }
+// Writes the header from the space's start. The numbers are a standby's, so that what is owed is told.
+fn write_header(space: &mut [u8], table: &Table, numbers: Numbers) -> usize
+    requires { (conflict numbers ≡ false) × (header_bytes ≤ length space.old) }
+    ensures { Appends (header table.now numbers) space.old 0 space.new result }
 {
-    owed(numbers).unwrap()
-}
-
-// Writes the header from the space's start.
-fn write_header(space: &mut [u8], mem: &[u8], numbers: Numbers) -> usize
-    requires { (holds mem.now ≡ true) × (conflict numbers ≡ false) × (header_bytes ≤ length space.old) }
-    ensures { Appends (header (table_of mem.now) numbers) space.old 0 space.new result }
-{
-    let counted = append_labelled(space, 0, b"entries ", listing::count(mem) as u64);
+    let counted = append_labelled(space, 0, b"entries ", table.count() as u64);
     let numbered = append_labelled(space, counted, b" changes ", numbers.n);
-    let owing = append_labelled(space, numbered, b" owed ", count_owed(numbers));
-    let switched = append_labelled(space, owing, b" switches ", reading::switches(mem) as u64);
-    let marked = append_labelled(space, switched, b" marks ", reading::marks(mem) as u64);
+    let owing = append_labelled(space, numbered, b" owed ", owed(numbers).unwrap());
+    let switched = append_labelled(space, owing, b" switches ", u64::from(table.switches()));
+    let marked = append_labelled(space, switched, b" marks ", u64::from(table.marks()));
     append(space, marked, b"\n")
 }
 
 // Writes the line of an entry.
-fn append_entry(space: &mut [u8], at: usize, kind: Kind, path: &[u8]) -> usize
-    requires { at + escaped_bytes * length path.now + line_bytes ≤ length space.old }
-    ensures { Appends (entry_line (record { kind = kind; path = path.now })) space.old at space.new result }
+fn append_entry(space: &mut [u8], at: usize, entry: Entry) -> usize
+    requires { at + escaped_bytes * length (entry_of entry).path + line_bytes ≤ length space.old }
+    ensures { Appends (entry_line (entry_of entry.entry)) space.old at space.new result }
 {
-    let from = append(space, at, &[kind_letter(kind), b' ']);
-    let end = escape(space, from, path);
+    let from = append(space, at, &[kind_letter(entry.kind), b' ']);
+    let end = escape(space, from, entry.path);
     append(space, end, b"\n")
 }
 
-// Writes a line for each entry, in list order.
-fn append_entries(space: &mut [u8], at: usize, mem: &[u8]) -> usize
-    requires mem_value { holds mem.now ≡ true }
-    requires mem_in_bounds { at + escaped_bytes * path_bytes (table_of mem.now).entries + line_bytes * length (table_of mem.now).entries ≤ length space.old }
-    ensures { Appends (entry_lines (table_of mem.now).entries) space.old at space.new result }
+// Writes a line for each entry of a table, in list order.
+fn append_entries(space: &mut [u8], at: usize, table: &Table) -> usize
+    requires { at + escaped_bytes * path_bytes table.now.entries + line_bytes * length table.now.entries ≤ length space.old }
+    ensures { Appends (entry_lines table.now.entries) space.old at space.new result }
 {
     let mut end = at;
-    let mut cursor = reading::first(mem);
-    while reading::is_at_entry(cursor) {
-        let kind = reading::kind(mem, cursor);
-        end = append_entry(space, end, kind, reading::path(mem, cursor));
-        cursor = reading::advance(mem, cursor);
+    for entry in table.entries() {
+        end = append_entry(space, end, entry);
     }
     end
 }
@@ -91,8 +80,9 @@ pub fn write_listing(space: &mut [u8], mem: &[u8], held: Held) -> usize
     requires { (holds mem.now ≡ true) × (conflict held.numbers ≡ false) × (listing_bytes ≤ length space.old) }
     ensures { Appends (listing (standing mem.now held)) space.old 0 space.new result }
 {
-    let from = write_header(space, mem, held.numbers);
-    let end = append_entries(space, from, mem);
+    let table = Table::of(mem);
+    let from = write_header(space, &table, held.numbers);
+    let end = append_entries(space, from, &table);
     if held.stopped {
         append_stopped(space, end, held.words)
     } else {

@@ -1,13 +1,12 @@
 -- `append_entry` meets its contract.
 use native.Mathlib.Omega.{arith}
+use Rattle.table.specs.Held.{entry_of}
 use Rattle.text.proofs.EscapeLaws.{escaped-long}
 use Rattle.holdlist.proofs.LineLaws.{entry-written}
 use Rattle.holdlist.proofs.printing.append_entry.Goals as goal
 
 pub append-requires : goal.append-requires
-append-requires c = omega (arith, escaped-long c.args.path.now, c.requires)
+append-requires c = omega (arith, escaped-long (entry_of c.args.entry).path, c.requires)
 
 pub returns : goal.returns
-returns c =
-    entry-written c.args.kind c.args.path.now _ c.kind_letter.ensures c.requires
-    c.append-from.ensures c.escape-end.ensures c.append.ensures
+returns c = entry-written (entry_of c.args.entry) _ c.kind_letter.ensures c.requires c.append-from.ensures c.escape-end.ensures c.append.ensures

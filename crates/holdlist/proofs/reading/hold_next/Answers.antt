@@ -16,26 +16,23 @@ slice_bounds-read_record-end c =
     sym (length-take-le _ _ (words_inside (standing c.args.mem.now c.args.held) c.args.bytes.now c.take_words-count.ensures))
 
 -- the record that the words begin with
-pub slice_bounds-words-end-in-Change : goal.slice_bounds-words-end-in-Change
-slice_bounds-words-end-in-Change c =
-    (next-record (standing c.args.mem.now c.args.held) c.args.bytes.now c.take_words-count.ensures c.read_record.ensures c.in-Change.is).few
+pub slice_bounds-words-end-in-Some : goal.slice_bounds-words-end-in-Some
+slice_bounds-words-end-in-Some c = (next-record (standing c.args.mem.now c.args.held) c.args.bytes.now c.take_words-count.ensures c.read_record.ensures c.in-Some.is).few
 
 pub slice_bounds-hold_record-end : goal.slice_bounds-hold_record-end
-slice_bounds-hold_record-end c =
-    let next = next-record (standing c.args.mem.now c.args.held) c.args.bytes.now c.take_words-count.ensures c.read_record.ensures c.in-Change.is in
-    sym (length-take-le _ _ next.few)
+slice_bounds-hold_record-end c = sym (length-take-le _ _ (next-record (standing c.args.mem.now c.args.held) c.args.bytes.now c.take_words-count.ensures c.read_record.ensures c.in-Some.is).few)
 
 pub hold_record-requires : goal.hold_record-requires
 hold_record-requires c =
-    let next = next-record (standing c.args.mem.now c.args.held) c.args.bytes.now c.take_words-count.ensures c.read_record.ensures c.in-Change.is in
+    let next = next-record (standing c.args.mem.now c.args.held) c.args.bytes.now c.take_words-count.ensures c.read_record.ensures c.in-Some.is in
     let left = words_left c.args.bytes.now (4 * c.args.held.words) record_space c.take_words-count.ensures c.requires in
     omega (arith, length-take-le _ _ next.few, next.inside)
 
-pub returns-in-Malformed : goal.returns-in-Malformed
-returns-in-Malformed c =
-    holds-malformed c.args.held c.args.bytes.now c.take_words-count.ensures c.read_record.ensures c.in-Malformed.is c.stop.ensures
-
-pub returns-in-Change : goal.returns-in-Change
-returns-in-Change c =
-    let next = next-record (standing c.args.mem.now c.args.held) c.args.bytes.now c.take_words-count.ensures c.read_record.ensures c.in-Change.is in
+pub returns-in-Some : goal.returns-in-Some
+returns-in-Some c =
+    let next = next-record (standing c.args.mem.now c.args.held) c.args.bytes.now c.take_words-count.ensures c.read_record.ensures c.in-Some.is in
     rw next.after c.hold_record.ensures
+
+pub returns-in-None : goal.returns-in-None
+returns-in-None c =
+    holds-malformed c.args.held c.args.bytes.now c.take_words-count.ensures c.read_record.ensures c.in-None.is c.stop.ensures

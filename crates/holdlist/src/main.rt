@@ -6,8 +6,8 @@ ghost use Rattle.std.specs.Prelude.{◌≡◌, length};
 ghost use Rattle.input.specs.Parts.{buffer_bytes};
 ghost use Rattle.holdlist.specs.Input.{HoldsInput};
 
-use input::parts::{keep_rest, read_after};
 use input::READS;
+use input::parts::{keep_rest, read_after};
 use printing::{LISTING_BYTES, write_listing};
 use reading::hold_on;
 use records::RECORD_WORDS;
@@ -72,17 +72,13 @@ fn main(rt: HostRuntime) {
     let mut buffer = [0u8; BUFFER_BYTES];
     match hold_input(&mut rt.stdin(), &mut mem, &mut buffer) {
         Err(_) => {
-            let _ = rt
-                .stderr()
-                .write_all(b"holdlist: standard input cannot be read\n");
+            let _ = eprintln!(rt; "holdlist: standard input cannot be read");
         }
         Ok(held) => {
             let mut space = [0u8; LISTING_BYTES];
             let n = write_listing(&mut space, &mem, held);
             if rt.stdout().write_all(&space[..n]).is_err() {
-                let _ = rt
-                    .stderr()
-                    .write_all(b"holdlist: standard output cannot be written\n");
+                let _ = eprintln!(rt; "holdlist: standard output cannot be written");
             }
         }
     }

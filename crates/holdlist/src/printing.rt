@@ -11,8 +11,8 @@ ghost use Rattle.holdlist.specs.Lines.{header_bytes, header, line_bytes, entry_l
 
 use crate::Held;
 use paths::copying::append;
-use standby::owing::owed;
 use standby::Numbers;
+use standby::owing::owed;
 use table::held::{Entry, Table};
 use table::{MAX_ENTRIES, MAX_PATH_BYTES};
 use text::decimals::append_labelled;

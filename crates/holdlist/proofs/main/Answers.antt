@@ -9,11 +9,11 @@ use Rattle.holdlist.proofs.main.Goals as goal
 
 pub write_listing-n-requires : goal.write_listing-n-requires
 write_listing-n-requires c =
-    let kept = input-kept (omega arith) c.make_fresh.ensures c.hold_input.ensures c.in-Held.is in
+    let kept = input-kept (omega arith) c.make_fresh.ensures c.hold_input.ensures c.in-Ok.is in
     (kept.holding, no-conflict _ kept.agreeing, omega arith)
 
 pub slice_bounds-space-end : goal.slice_bounds-space-end
 slice_bounds-space-end c = starts-inside c.write_listing-n.ensures
 
-pub slice_bounds-write_all-end-in-Held : goal.slice_bounds-write_all-end-in-Held
-slice_bounds-write_all-end-in-Held c = sym (length-take-le _ _ (starts-inside c.write_listing-n.ensures))
+pub slice_bounds-write_all-end : goal.slice_bounds-write_all-end
+slice_bounds-write_all-end c = sym (length-take-le _ _ (starts-inside c.write_listing-n.ensures))

@@ -7,16 +7,15 @@ use mathlib.Core.Bool.{true, false}
 use native.Mathlib.Omega.{arith}
 use lib.ListN.{length}
 use Rattle.refusals.specs.declared.Refusal.{Refusal}
-use Rattle.refusals.specs.declared.Refusal.TheVariants.{NoTable, NoSpace, Unknown}
+use Rattle.refusals.specs.declared.Refusal.TheVariants.{NoTable}
 use Rattle.refusals.specs.Refusals.{Result, and_then}
-use Rattle.table.specs.declared.Outcome.{Outcome}
 use Rattle.table.specs.Tables.{Table, is_table}
 use Rattle.table.specs.Acts.{apply_acts}
 use Rattle.table.specs.Memory.{table_bytes, table_of, holds, put, do_acts}
 use Rattle.table.specs.Carrying.{outcome_of}
 use Rattle.link.specs.declared.Link.{Link}
-use Rattle.link.specs.Linking.{lacks_room, Numbering, numbering, lacks_run, past}
-use Rattle.link.proofs.LinkLaws.{room-short, room-long, run-unknown, run-known}
+use Rattle.link.specs.Linking.{Numbering, numbering, past, admit}
+use Rattle.link.proofs.LinkLaws.{not_admitted, room-long, run-known}
 use Rattle.link.specs.Sending.{Lent}
 use Rattle.link.specs.Steps.{Admits}
 use Rattle.link.proofs.SendingLaws.{sends-nothing, sends-recorded}
@@ -29,11 +28,10 @@ use Rattle.child.specs.declared.ChildSent.{ChildSent}
 use Rattle.child.specs.declared.ChildUnaryPermissionArg.{ChildUnaryPermissionArg}
 use Rattle.child.specs.declared.ChildUnaryPermissionArg.TheVariants.{Inherit, Granted, NotGranted, GrantedList}
 use Rattle.items.specs.Items.{Item, item_list}
-use Rattle.child.specs.Arguments.{Arguments, arg_of, items_of, are_in_order, arguments_of}
+use Rattle.child.specs.Arguments.{Arguments, arg_of, known_arg, items_of, are_in_order, arguments_of}
 use Rattle.child.specs.Making.{Made, then, item_step, all_items, take_over, take_over_acts, first_child, completed, create_child}
 use Rattle.child.specs.Calls.{Creation, creation, child_call, refusal_in, times_asked, child_acts, child_left, child_after, Creates, CreatesChild}
-use Rattle.child.specs.Steps.{made_refused, child_refused, Makes, after_items, Completes, MakesSent, SendsItems}
-use Rattle.child.specs.declared.ArgRead.TheVariants.{Arg}
+use Rattle.child.specs.Steps.{child_made, child_sent, Makes, after_items, Completes, MakesSent, SendsItems, Passed, Tests}
 use Rattle.items.proofs.ItemListLaws.{Known, all_known}
 use Rattle.items.specs.Steps.{are_responses}
 use Rattle.child.proofs.ArgumentLaws.{in_order}
@@ -92,14 +90,9 @@ module _ (link : Link) (l : Lent) (c : List ℕ) (code : ℕ) (bytes ends respon
     child-small short = rw (a-table l.memory h, fresh-short c short)
 
     module _ (long : table_bytes ≤ length c) where
-      pub child-short : lacks_room (length ends) link l.words ≡ true → child_call link l c code (item_list bytes ends responses) cwd ≡ Err NoSpace
+      pub child-barred : {cause : Refusal} → Err cause ≡ admit (length ends) link l.words → child_call link l c code (item_list bytes ends responses) cwd ≡ Err cause
       unfolding child_call and_then
-      child-short e = rw (a-table l.memory h, fresh-long c long, room-short (length ends) link l.words e)
-
-      pub child-unlinked : lacks_room (length ends) link l.words ≡ false → lacks_run link ≡ true
-          → child_call link l c code (item_list bytes ends responses) cwd ≡ Err Unknown
-      unfolding child_call and_then
-      child-unlinked e f = rw (a-table l.memory h, fresh-long c long, room-long (length ends) link l.words e, run-unknown link l.number f)
+      child-barred e = rw (a-table l.memory h, fresh-long c long) (not_admitted _ _ _ _ _ e)
 
       module _ (A : Admits (length ends) link l.words) where
         pub child-unknown : {cause : Refusal} → arguments_of code bytes ends responses ≡ Err cause
@@ -114,14 +107,14 @@ module _ (link : Link) (l : Lent) (c : List ℕ) (code : ℕ) (bytes ends respon
 
 -- ---- what the call answers and leaves
 
-pub refused-creates : {call : Result Creation} {c : List ℕ} {cause : Refusal} {a : ChildMade} → call ≡ Err cause → a ≡ made_refused cause 0 → Creates call c c a
+pub refused-creates : {call : Result Creation} {c : List ℕ} {cause : Refusal} → call ≡ Err cause → Creates call c c (child_made (Err cause) 0)
 unfolding refusal_in times_asked child_after outcome_of
-refused-creates e f = rw f (record { outcome = rw e; asked = rw e; child = rw e })
+refused-creates e = record { outcome = rw e; asked = rw e; child = rw e }
 
 pub creates-refused : {link : Link} {l : Lent} {c : List ℕ} {code : ℕ} {bytes ends responses cwd : List ℕ} {cause : Refusal} {a : ChildSent}
-    → child_call link l c code (item_list bytes ends responses) cwd ≡ Err cause → a ≡ child_refused cause 0 0 → CreatesChild link l c code (item_list bytes ends responses) cwd l c a
+    → child_call link l c code (item_list bytes ends responses) cwd ≡ Err cause → a ≡ child_sent (Err cause) 0 0 → CreatesChild link l c code (item_list bytes ends responses) cwd l c a
 unfolding child_acts
-creates-refused e f = rw f (record { creates = refused-creates e refl; sends = sends-nothing (rw e) })
+creates-refused e f = rw f (record { creates = refused-creates e; sends = sends-nothing (rw e) })
 
 pub over-asked : (t u : Table) → (take_over t u).asked ≡ 0
 unfolding take_over
@@ -163,7 +156,7 @@ pub record Ran (numbers : Numbering) (m c : List ℕ) (code : ℕ) (bytes ends r
   pub made : Makes (all_items numbers cwd args.items (table_of m) (table_of c₁)) m c₁ m' c₂ r
 
 ran : (numbers : Numbering) (m c : List ℕ) (code : ℕ) (bytes ends_of responses cwd : List ℕ) {arg : ChildUnaryPermissionArg} {c₁ m' c₂ : List ℕ} {r : ChildMade}
-    → holds m ≡ true → table_bytes ≤ length c → arg_of code ≡ Arg arg → are_in_order arg bytes ends_of responses ≡ true → (K : Known responses)
+    → holds m ≡ true → table_bytes ≤ length c → known_arg (arg_of code) ≡ Ok arg → are_in_order arg bytes ends_of responses ≡ true → (K : Known responses)
     → c₁ ≡ put (first_child arg (table_of m)) c
     → Makes (all_items numbers cwd (items_of arg bytes ends_of K.responses) (table_of m) (table_of c₁)) m c₁ m' c₂ r
     → Ran numbers m c code bytes ends_of responses cwd (record { arg = arg; items = items_of arg bytes ends_of K.responses }) c₁ m' c₂ r
@@ -202,14 +195,14 @@ module _ {numbers : Numbering} {m c : List ℕ} {code : ℕ} {bytes ends_of resp
   parent_by : {call : Result Creation} → call ≡ Ok (creation numbers (table_of m) cwd args) → m' ≡ do_acts m (child_acts call)
   parent_by call = R.made.parent ∙ ap (do_acts m) (sym (acts-are call))
 
-  creates-by : {call : Result Creation} {c₃ : List ℕ} {a : ChildMade} → call ≡ Ok (creation numbers (table_of m) cwd args)
-      → Completes (after_items r.outcome (take_over (table_of m') (table_of c₂))) r.asked c₂ c₃ a → Creates call c c₃ a
+  creates-by : {call : Result Creation} {c₃ : List ℕ} {o : Result Unit} → call ≡ Ok (creation numbers (table_of m) cwd args)
+      → Completes (after_items r.outcome (take_over (table_of m') (table_of c₂))) c₂ c₃ o → Creates call c c₃ (child_made o r.asked)
   unfolding refusal_in times_asked child_after creation
   creates-by call C =
       let rest = take_over (table_of m') (table_of c₂) in
       let E = ends items rest items.refused refl (over-asked (table_of m') (table_of c₂)) (over-acts (table_of m') (table_of c₂)) in
       let M = R.made in
-      let after = ap (λ (o : Outcome). after_items o rest) M.outcome in
+      let after = ap (λ (o : Result Unit). after_items o rest) M.outcome in
       let refusal : (create_child numbers (table_of m) args cwd).refused ≡ (after_items r.outcome rest).refused =
       ap (λ (x : Made). x.refused) made-is ∙ E.refusal ∙ ap (λ (x : Made). x.refused) (sym after) in
       let grants : do_acts c₂ (after_items r.outcome rest).grants ≡ do_acts c₁ (create_child numbers (table_of m) args cwd).grants =
@@ -217,7 +210,7 @@ module _ {numbers : Numbering} {m c : List ℕ} {code : ℕ} {bytes ends_of resp
       ∙ sym (E.grants c₁) ∙ ap (λ (x : Made). do_acts c₁ x.grants) (sym made-is) in
       record {
         outcome = C.outcome ∙ ap outcome_of (sym refusal) ∙ rw call;
-        asked = C.times ∙ M.asked ∙ sym E.times ∙ ap (λ (x : Made). x.asked) (sym made-is) ∙ rw call;
+        asked = M.asked ∙ sym E.times ∙ ap (λ (x : Made). x.asked) (sym made-is) ∙ rw call;
         child = C.child ∙ ap (λ (o : Option Refusal). child_left o (do_acts c₂ (after_items r.outcome rest).grants)) (sym refusal)
             ∙ ap (child_left (create_child numbers (table_of m) args cwd).refused) (grants ∙ ap (λ (l : List ℕ). do_acts l (create_child numbers (table_of m) args cwd).grants) R.begun) ∙ rw call;
       }
@@ -232,16 +225,15 @@ pub record Through (link : Link) (l : Lent) (c : List ℕ) (code : ℕ) (bytes e
   pub sent : MakesSent (all_items (numbering link l.number) cwd args.items (table_of l.memory) (table_of c₁)) link l c₁ 0 l' c₂ r
 
 pub through : (link : Link) (l : Lent) (c : List ℕ) (code : ℕ) (bytes ends_of responses cwd : List ℕ) {arg : ChildUnaryPermissionArg} {c₁ : List ℕ} {l' : Lent} {c₂ : List ℕ} {r : ChildSent}
-    → holds l.memory ≡ true → table_bytes ≤ length c → arg_of code ≡ Arg arg → are_in_order arg bytes ends_of responses ≡ true → are_responses responses ≡ true
-    → Admits (length ends_of) link l.words → c₁ ≡ put (first_child arg (table_of l.memory)) c
+    → Passed link l.memory l.words c code (item_list bytes ends_of responses) arg → c₁ ≡ put (first_child arg (table_of l.memory)) c
     → SendsItems cwd (items_of arg bytes ends_of) responses link l c₁ l' c₂ r → Through link l c code bytes ends_of responses cwd c₁ l' c₂ r
-through link l c code bytes ends_of responses cwd {arg} h long a o known A b S =
-    let K = all_known responses known in
+through link l c code bytes ends_of responses cwd {arg} P b S =
+    let K = all_known responses P.responses in
     let sent = S K.responses K.are in
     record {
       args = record { arg = arg; items = items_of arg bytes ends_of K.responses };
-      ran = ran (numbering link l.number) l.memory c code bytes ends_of responses cwd h long a o K b sent.makes;
-      admitted = A;
+      ran = ran (numbering link l.number) l.memory c code bytes ends_of responses cwd P.parent P.child P.known P.ordered K b sent.makes;
+      admitted = P.admits;
       sent = sent;
     }
 
@@ -252,9 +244,9 @@ through-held T = (items-parent T.ran, items-child T.ran)
 
 pub creates : {link : Link} {l : Lent} {c : List ℕ} {code : ℕ} {bytes ends_of responses cwd c₁ c₂ : List ℕ} {l' : Lent} {r : ChildSent}
     → Through link l c code bytes ends_of responses cwd c₁ l' c₂ r
-    → {c₃ : List ℕ} {a : ChildMade} → Completes (after_items r.made.outcome (take_over (table_of l'.memory) (table_of c₂))) r.made.asked c₂ c₃ a
-    → CreatesChild link l c code (item_list bytes ends_of responses) cwd l' c₃ (record { made = a; words = r.words })
-creates {link} {l} {c} {code} {bytes} {ends_of} {responses} {cwd} T C =
+    → {c₃ : List ℕ} {o : Result Unit} {a : ChildSent} → Completes (after_items r.made.outcome (take_over (table_of l'.memory) (table_of c₂))) c₂ c₃ o
+    → a ≡ child_sent o r.made.asked r.words → CreatesChild link l c code (item_list bytes ends_of responses) cwd l' c₃ a
+creates {link} {l} {c} {code} {bytes} {ends_of} {responses} {cwd} T C f =
     let R = T.ran in
     let call = child-known link l c code bytes ends_of responses cwd R.holding R.long T.admitted T.args R.read in
-    record { creates = creates-by R call C; sends = sends-recorded (parent_by R call) (rw (← acts-are R call) at T.sent.records) }
+    rw f (record { creates = creates-by R call C; sends = sends-recorded (parent_by R call) (rw (← acts-are R call) at T.sent.records) })

@@ -1,21 +1,21 @@
 -- Laws of the items of a linked child call: what one sends, and the items of a list in turn.
-use Rattle.std.specs.Prelude.{Option, None, Some, Ok}
+use Rattle.std.specs.Prelude.{Option, None, Some, Ok, Err}
 use Prim.Native.Nat.{ℕ, ◌+◌, ◌-◌, ◌*◌, ◌≤◌, ◌<◌}
+use Rattle.std.specs.Int.{from_bool}
+use mathlib.Core.Logic.{◌⊎◌, inl, inr}
 use mathlib.Core.Path.{◌≡◌, refl, sym, ap, subst, ◌∙◌}
 use mathlib.Core.List.{List, [], append-nil}
-use mathlib.Core.Bool.{Bool, true}
+use mathlib.Core.Bool.{Bool, true, false}
 use native.Mathlib.Omega.{arith}
 use lib.ListN.{length, get_or, take, drop, drop_of_length-le}
 use Rattle.refusals.specs.declared.Refusal.{Refusal}
+use Rattle.refusals.specs.Refusals.{Result}
 use Rattle.paths.specs.declared.Descriptor.{Descriptor}
 use Rattle.paths.specs.declared.Descriptor.TheVariants.{NoPath, Path}
 use Rattle.paths.specs.Giving.{query_of}
-use Rattle.table.specs.declared.Outcome.{Outcome}
-use Rattle.table.specs.declared.Outcome.TheVariants as outcome
 use Rattle.table.specs.Acts.{Act, apply_acts}
 use Rattle.table.specs.Memory.{table_of, holds}
 use Rattle.table.proofs.ActLaws.{outcome-done, outcome-refused}
-use Rattle.walk.specs.declared.PermissionState.{PermissionState}
 use Rattle.records.specs.Numbers.{record_space}
 use Rattle.link.specs.declared.Link.{Link}
 use Rattle.link.specs.Linking.{numbering, past}
@@ -24,27 +24,31 @@ use Rattle.link.specs.Steps.{Admits, Ready, Records}
 use Rattle.link.proofs.LinkLaws.{least-one, least-many, ready_by, admits-same}
 use Rattle.link.proofs.SendingLaws.{records-none, records-then, past-records}
 use Rattle.deciding.specs.declared.PromptResponse.{PromptResponse}
-use Rattle.deciding.specs.declared.ResponseRead.TheVariants as response-read
 use Rattle.deciding.specs.declared.Call.TheVariants.{Check}
 use Rattle.calls.specs.declared.Settled.{Settled}
-use Rattle.calls.specs.declared.Settled.TheVariants as settled-as
 use Rattle.deciding.specs.Decisions.{response_of}
 use Rattle.calls.specs.Calls.{settled, decided_acts, Settles}
-use Rattle.calls.proofs.AskLaws.{settled-words, stopped-records}
+use Rattle.calls.proofs.AskLaws.{settled-told, stopped-records}
 use Rattle.child.specs.declared.ChildSent.{ChildSent}
 use Rattle.child.specs.declared.ChildUnaryPermissionArg.{ChildUnaryPermissionArg}
 use Rattle.child.specs.declared.ChildUnaryPermissionArg.TheVariants.{Inherit, Granted, NotGranted, GrantedList}
 use Rattle.items.specs.Items.{known_responses, Item, list_items, close_at}
 use Rattle.child.specs.Arguments.{granted_item, items_of}
 use Rattle.child.specs.Making.{Made, nothing, then, count_of, passed_on, item_step, all_items}
-use Rattle.child.specs.Steps.{MakesChild, child_done, child_refused, MakesSent, SendsItem}
+use Rattle.child.specs.Steps.{child_sent, MakesChild, MakesSent, SendsItem}
 use Rattle.child.proofs.MakingLaws.{then-stops, then-goes, item-acts}
 use Rattle.items.proofs.ItemListLaws.{known-drop}
-use Rattle.child.proofs.ItemLaws.{item_refused, item-made, Going, going_start, first-item, going-once, going-parent, going-child, left-parent, left-child, going-stops, going_next, going_done, all-inherited, all-refused, all_one}
+use Rattle.child.proofs.ItemLaws.{item_refused, item-made, Going, going_start, first-item, going-once, going-parent, going-child, left-parent, left-child, going-stops, going_next, going_done, all-none, all_one}
 
 -- ---- one item
 
-module _ {link : Link} {m : List ℕ} {n : ℕ} {w : List ℕ} {at : ℕ} {d : Descriptor} {p cwd : List ℕ} {response : PromptResponse} {s m' : List ℕ} {n' : ℕ} {w' s' : List ℕ} {r : Settled}
+-- how often it asks, as the code counts it
+from-count : (asked : Bool) → from_bool asked ≡ count_of asked
+unfolding count_of
+from-count true = refl
+from-count false = refl
+
+module _ {link : Link} {m : List ℕ} {n : ℕ} {w : List ℕ} {at : ℕ} {d : Descriptor} {p cwd : List ℕ} {response : PromptResponse} {s m' : List ℕ} {n' : ℕ} {w' s' : List ℕ} {r : Result Settled}
     (S : Settles Check link (lent m n w) at d p cwd response s (lent m' n' w') s' r) where
   abbrev item : Item
   item = record { descriptor = d; given = p; response = response }
@@ -54,20 +58,20 @@ module _ {link : Link} {m : List ℕ} {n : ℕ} {w : List ℕ} {at : ℕ} {d : D
   item_by u = item-acts (settled Check (numbering link n) (table_of m) d p cwd response) _ (table_of u)
 
   -- the parent's check is refused: there is no record
-  pub item-stops : {cause : Refusal} (c : List ℕ) {a : ChildSent} → r ≡ settled-as.Refused cause → a ≡ child_refused cause 0 at → SendsItem cwd item link (lent m n w) c at (lent m' n' w') c a
+  pub item-stops : {cause : Refusal} (c : List ℕ) {a : ChildSent} → r ≡ Err cause → a ≡ child_sent (Err cause) 0 at → SendsItem cwd item link (lent m n w) c at (lent m' n' w') c a
   item-stops {cause} c e f = rw f (record {
-    sent = record { makes = item_refused S c e refl; records = rw (item_by c) (stopped-records S e) };
+    sent = record { makes = item_refused S c e; records = rw (item_by c) (stopped-records S e) };
     few = omega arith;
   })
 
   -- it comes to an end, and what passes is granted
-  pub item-sends : {state : PermissionState} {asked writes : Bool} {k : ℕ} {c c' : List ℕ} {o : Outcome} {times end : ℕ} → r ≡ settled-as.Decided state asked writes k end
-      → MakesChild (passed_on state (query_of d (take k s')) (table_of c)) c c' o → times ≡ count_of asked
-      → SendsItem cwd item link (lent m n w) c at (lent m' n' w') c' (record { made = record { outcome = o; asked = times }; words = end })
-  item-sends {c = c} e M f = record {
-    sent = record { makes = item-made S e M f; records = rw (item_by c, settled-words S e) S.records };
-    few = rw (settled-words S e) S.few;
-  }
+  pub item-sends : {o : Settled} {c c' : List ℕ} {out : Result Unit} {times : ℕ} {a : ChildSent} → r ≡ Ok o
+      → MakesChild (passed_on o.state (query_of d (take o.size s')) (table_of c)) c c' out → times ≡ from_bool o.asked → a ≡ child_sent out times o.words
+      → SendsItem cwd item link (lent m n w) c at (lent m' n' w') c' a
+  item-sends {o} {c} e M f g = let words = (settled-told S e).words-is in rw (g, f, from-count o.asked) (record {
+    sent = record { makes = item-made S e M; records = rw (item_by c, words) S.records };
+    few = rw words S.few;
+  })
 
 -- ---- the items of a list, in turn
 
@@ -94,7 +98,7 @@ sent-start cwd bytes ends responses m c link n w h k e s = record {
 
 module _ {cwd bytes ends responses m₀ c₀ : List ℕ} {link : Link} {n₀ : ℕ} {w₀ m c : List ℕ} {n : ℕ} {w : List ℕ} {asked at from i : ℕ}
     (G : GoingSent cwd bytes ends responses m₀ c₀ link n₀ w₀ m c n w asked at from i)
-    (h : i < length ends) (l : i < length responses) {response : PromptResponse} (e : response_of (get_or responses i 0) ≡ response-read.Response response)
+    (h : i < length ends) (l : i < length responses) {response : PromptResponse} (e : response_of (get_or responses i 0) ≡ Some response)
     {end : ℕ} (f : end ≡ get_or ends i 0) where
   -- a record's space is left
   pub sent-room : Ready link w at
@@ -116,13 +120,13 @@ module _ {cwd bytes ends responses m₀ c₀ : List ℕ} {link : Link} {n₀ : �
     pub sent-child : length c₁ ≡ length c₀
     sent-child = going-child G.items h l e f A.sent.makes
 
-    pub sent-stops : {cause : Refusal} {k : ℕ} {a : ChildSent} → r.made.outcome ≡ outcome.Refused cause → k ≡ asked + r.made.asked → a ≡ child_refused cause k r.words
+    pub sent-stops : {cause : Refusal} {k : ℕ} {a : ChildSent} → r.made.outcome ≡ Err cause → k ≡ asked + r.made.asked → a ≡ child_sent (Err cause) k r.words
         → (known : List PromptResponse) → known_responses responses ≡ Ok known
         → MakesSent (all_items (numbering link n₀) cwd (list_items bytes 0 ends known) (table_of m₀) (table_of c₀)) link (lent m₀ n₀ w₀) c₀ 0 (lent m₁ n₁ w₁) c₁ a
     sent-stops o k g known j =
         let stops = first-item G.items h l e f known j ∙ then-stops step _ (outcome-refused step.refused (sym A.sent.makes.outcome ∙ o)) in
         rw g (record {
-          makes = going-stops G.items h l e f A.sent.makes o k refl known j;
+          makes = going-stops G.items h l e f A.sent.makes o k known j;
           records = G.goes known j n₁ w₁ r.words
               (subst (λ (acts : List Act). Records link acts n w at n₁ w₁ r.words) (sym (ap (λ (x : Made). x.acts) stops)) A.sent.records);
         })
@@ -130,7 +134,7 @@ module _ {cwd bytes ends responses m₀ c₀ : List ℕ} {link : Link} {n₀ : �
     numbers : numbering link n₁ ≡ past (numbering link n) step.acts
     numbers = past-records A.sent.records
 
-    pub sent-next : {k : ℕ} → r.made.outcome ≡ outcome.Done → k ≡ asked + r.made.asked → length w₁ ≡ length w
+    pub sent-next : {k : ℕ} → r.made.outcome ≡ Ok tt → k ≡ asked + r.made.asked → length w₁ ≡ length w
         → GoingSent cwd bytes ends responses m₀ c₀ link n₀ w₀ m₁ c₁ n₁ w₁ k r.words end (i + 1)
     sent-next {k} o g s = record {
       items = going_next G.items h l e f A.sent.makes o g numbers;
@@ -147,12 +151,12 @@ module _ {cwd bytes ends responses m₀ c₀ : List ℕ} {link : Link} {n₀ : �
     }
 
 pub sent-done : {cwd bytes ends responses m₀ c₀ : List ℕ} {link : Link} {n₀ : ℕ} {w₀ m c : List ℕ} {n : ℕ} {w : List ℕ} {asked at from i : ℕ}
-    → GoingSent cwd bytes ends responses m₀ c₀ link n₀ w₀ m c n w asked at from i → length ends ≤ i → {a : ChildSent} → a ≡ child_done asked at
+    → GoingSent cwd bytes ends responses m₀ c₀ link n₀ w₀ m c n w asked at from i → length ends ≤ i → {a : ChildSent} → a ≡ child_sent (Ok tt) asked at
     → (known : List PromptResponse) → known_responses responses ≡ Ok known
     → MakesSent (all_items (numbering link n₀) cwd (list_items bytes 0 ends known) (table_of m₀) (table_of c₀)) link (lent m₀ n₀ w₀) c₀ 0 (lent m n w) c a
 unfolding list_items all_items
 sent-done {ends = ends} {link = link} {n = n} {w = w} {at = at} G l e known k =
-    rw e (record { makes = going_done G.items l refl known k; records = G.goes known k n w at (rw (drop_of_length-le ends l) (records-none link n w at)) })
+    rw e (record { makes = going_done G.items l known k; records = G.goes known k n w at (rw (drop_of_length-le ends l) (records-none link n w at)) })
 
 -- ---- the items of any argument
 
@@ -161,22 +165,22 @@ pub one-ready : (k : ℕ) (link : Link) (w : List ℕ) → Admits k link w → R
 one-ready k link w e = ready_by k link w 0 e (omega (arith, least-one k))
 
 module _ {arg : ChildUnaryPermissionArg} (cwd bytes ends : List ℕ) (known : List PromptResponse) {m c : List ℕ} {link : Link} {n : ℕ} {w : List ℕ} {a : ChildSent} where
-  pub sent-inherited : arg ≡ Inherit → a ≡ child_done 0 0
+  -- none
+  pub sent-none : (arg ≡ Inherit) ⊎ (arg ≡ NotGranted) → a ≡ child_sent (Ok tt) 0 0
       → MakesSent (all_items (numbering link n) cwd (items_of arg bytes ends known) (table_of m) (table_of c)) link (lent m n w) c 0 (lent m n w) c a
   unfolding items_of all_items
-  sent-inherited e f = rw f (record { makes = all-inherited (numbering link n) cwd bytes ends known e refl; records = rw e (records-none link n w 0) })
-
-  pub sent-refused : arg ≡ NotGranted → a ≡ child_done 0 0
-      → MakesSent (all_items (numbering link n) cwd (items_of arg bytes ends known) (table_of m) (table_of c)) link (lent m n w) c 0 (lent m n w) c a
-  unfolding items_of all_items
-  sent-refused e f = rw f (record { makes = all-refused (numbering link n) cwd bytes ends known e refl; records = rw e (records-none link n w 0) })
+  sent-none e f = rw f (record { makes = all-none (numbering link n) cwd bytes ends known e; records = none-acts e })
+    where
+      none-acts : (arg ≡ Inherit) ⊎ (arg ≡ NotGranted) → Records link (all_items (numbering link n) cwd (items_of arg bytes ends known) (table_of m) (table_of c)).acts n w 0 n w 0
+      none-acts (inl e) = rw e (records-none link n w 0)
+      none-acts (inr e) = rw e (records-none link n w 0)
 
 alone-acts : (a : Made) (o : Option Refusal) → a.refused ≡ o → (then a nothing).acts ≡ a.acts
 alone-acts a None e = ap (λ (x : Made). x.acts) (then-goes a nothing e) ∙ append-nil a.acts
 alone-acts a (Some cause) e = ap (λ (x : Made). x.acts) (then-stops a nothing e)
 
 pub sent-one : {arg : ChildUnaryPermissionArg} (cwd bytes ends responses : List ℕ) (known : List PromptResponse) {response : PromptResponse} {m c : List ℕ} {link : Link} {n : ℕ} {w m' c' : List ℕ} {n' : ℕ} {w' : List ℕ} {r : ChildSent}
-    → arg ≡ Granted → 0 < length responses → known_responses responses ≡ Ok known → response_of (get_or responses 0 0) ≡ response-read.Response response
+    → arg ≡ Granted → 0 < length responses → known_responses responses ≡ Ok known → response_of (get_or responses 0 0) ≡ Some response
     → SendsItem cwd (record { descriptor = NoPath; given = []; response = response }) link (lent m n w) c 0 (lent m' n' w') c' r
     → MakesSent (all_items (numbering link n) cwd (items_of arg bytes ends known) (table_of m) (table_of c)) link (lent m n w) c 0 (lent m' n' w') c' r
 unfolding items_of granted_item all_items

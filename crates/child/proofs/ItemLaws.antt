@@ -1,6 +1,7 @@
 -- Laws of the items: what the parent's check of one and the child's grant come to, and the items of a list in turn.
 use Rattle.std.specs.Prelude.{Option, None, Some, Ok, Err}
 use Prim.Native.Nat.{ℕ, ◌+◌, ◌-◌, ◌≤◌, ◌<◌}
+use mathlib.Core.Logic.{◌⊎◌, inl, inr}
 use mathlib.Core.Path.{◌≡◌, refl, sym, ap, subst, ◌∙◌}
 use mathlib.Core.List.{List, [], ◌∷◌, append-nil}
 use mathlib.Core.Bool.{Bool, true, false}
@@ -13,8 +14,6 @@ use Rattle.paths.specs.declared.Descriptor.TheVariants.{NoPath, Path}
 use Rattle.paths.specs.Resolving.{resolve}
 use Rattle.paths.specs.Giving.{Query, query_of}
 use Rattle.paths.proofs.GivingLaws.{Stands}
-use Rattle.table.specs.declared.Outcome.{Outcome}
-use Rattle.table.specs.declared.Outcome.TheVariants as outcome
 use Rattle.table.specs.Tables.{Table}
 use Rattle.table.specs.Acts.{apply_acts}
 use Rattle.table.specs.Memory.{table_of, holds, do_acts}
@@ -23,12 +22,9 @@ use Rattle.table.proofs.ActLaws.{acts-append, Acted, acted-none, outcome-done, o
 use Rattle.link.specs.declared.Link.{Link}
 use Rattle.link.specs.Linking.{Numbering, numbering, past}
 use Rattle.link.specs.Sending.{Lent}
-use Rattle.walk.specs.declared.PermissionState.{PermissionState}
 use Rattle.deciding.specs.declared.PromptResponse.{PromptResponse}
-use Rattle.deciding.specs.declared.ResponseRead.TheVariants as response-read
 use Rattle.deciding.specs.declared.Call.TheVariants.{Check}
 use Rattle.calls.specs.declared.Settled.{Settled}
-use Rattle.calls.specs.declared.Settled.TheVariants as settled-as
 use Rattle.deciding.specs.Decisions.{response_of, Decision}
 use Rattle.calls.specs.Calls.{settled, Settles}
 use Rattle.calls.proofs.AskLaws.{settled-refused, settled-told, settled-stands, decided-stands}
@@ -39,7 +35,7 @@ use Rattle.child.specs.declared.ChildUnaryPermissionArg.TheVariants.{Inherit, Gr
 use Rattle.items.specs.Items.{known_responses, Item, list_items, close_at}
 use Rattle.child.specs.Arguments.{granted_item, items_of}
 use Rattle.child.specs.Making.{Made, nothing, then, count_of, passed_on, checked, item_by, item_step, all_items, onward}
-use Rattle.child.specs.Steps.{made_done, made_refused, Makes, MakesChild}
+use Rattle.child.specs.Steps.{child_made, Makes, MakesChild}
 use Rattle.items.proofs.ItemListLaws.{drop-next, known-drop, closing-next}
 use Rattle.child.proofs.MakingLaws.{then-stops, then-goes, passed-asked, pass-acted, item-acts, item-grants}
 
@@ -58,31 +54,31 @@ item-asked : (decision : Decision) (q : Query) (u : Table) → (item_by (Ok deci
 unfolding item_by checked onward
 item-asked decision q u = rw (passed-asked decision.state q u) (omega arith)
 
-module _ {link : Link} {l : Lent} {at : ℕ} {d : Descriptor} {p cwd : List ℕ} {response : PromptResponse} {s : List ℕ} {l' : Lent} {s' : List ℕ} {r : Settled}
+module _ {link : Link} {l : Lent} {at : ℕ} {d : Descriptor} {p cwd : List ℕ} {response : PromptResponse} {s : List ℕ} {l' : Lent} {s' : List ℕ} {r : Result Settled}
     (S : Settles Check link l at d p cwd response s l' s' r) where
   -- the parent's check is refused
-  pub item_refused : {cause : Refusal} (c : List ℕ) {a : ChildMade} → r ≡ settled-as.Refused cause → a ≡ made_refused cause 0
-      → Makes (item_step (numbering link l.number) cwd (record { descriptor = d; given = p; response = response }) (table_of l.memory) (table_of c)) l.memory c l'.memory c a
+  pub item_refused : {cause : Refusal} (c : List ℕ) → r ≡ Err cause
+      → Makes (item_step (numbering link l.number) cwd (record { descriptor = d; given = p; response = response }) (table_of l.memory) (table_of c)) l.memory c l'.memory c (child_made (Err cause) 0)
   unfolding item_step item_by outcome_of do_acts
-  item_refused c e f = rw f (record {
+  item_refused c e = record {
     outcome = rw (settled-refused S e);
     asked = rw (settled-refused S e);
     parent = S.memory ∙ ap (do_acts l.memory) (sym (item-acts (settled Check (numbering link l.number) (table_of l.memory) d p cwd response) _ (table_of c)));
     child = rw (settled-refused S e);
-  })
+  }
 
   -- it comes to an end, and what passes is granted
-  pub item-made : {state : PermissionState} {asked writes : Bool} {n : ℕ} {c c' : List ℕ} {o : Outcome} {k : ℕ} {end : ℕ} → r ≡ settled-as.Decided state asked writes n end
-      → MakesChild (passed_on state (query_of d (take n s')) (table_of c)) c c' o → k ≡ count_of asked
-      → Makes (item_step (numbering link l.number) cwd (record { descriptor = d; given = p; response = response }) (table_of l.memory) (table_of c)) l.memory c l'.memory c' (record { outcome = o; asked = k })
+  pub item-made : {o : Settled} {c c' : List ℕ} {out : Result Unit} → r ≡ Ok o
+      → MakesChild (passed_on o.state (query_of d (take o.size s')) (table_of c)) c c' out
+      → Makes (item_step (numbering link l.number) cwd (record { descriptor = d; given = p; response = response }) (table_of l.memory) (table_of c)) l.memory c l'.memory c' (child_made out (count_of o.asked))
   unfolding item_step
-  item-made {c = c} e M f =
+  item-made {c = c} e M =
       let T = settled-told S e in
       let q = stands-query (settled-stands S e) in
       let P = rw (q, T.state-is) at M in
       record {
         outcome = P.outcome ∙ ap outcome_of (sym (ap (λ (x : Result Decision). (item_by x (query_of d (resolve p cwd)) (table_of c)).refused) T.is ∙ item-outcome T.decision _ (table_of c)));
-        asked = f ∙ ap count_of T.asked_is ∙ sym (ap (λ (x : Result Decision). (item_by x (query_of d (resolve p cwd)) (table_of c)).asked) T.is ∙ item-asked T.decision _ (table_of c));
+        asked = ap count_of T.asked_is ∙ sym (ap (λ (x : Result Decision). (item_by x (query_of d (resolve p cwd)) (table_of c)).asked) T.is ∙ item-asked T.decision _ (table_of c));
         parent = S.memory ∙ ap (do_acts l.memory) (sym (item-acts (settled Check (numbering link l.number) (table_of l.memory) d p cwd response) _ (table_of c)));
         child = P.child ∙ ap (do_acts c) (sym (item-grants (settled Check (numbering link l.number) (table_of l.memory) d p cwd response) _ (table_of c) T.is));
       }
@@ -126,14 +122,14 @@ unfoldable pub counted : ℕ → Made → Made
 counted k made = record { acts = made.acts; grants = made.grants; asked = k + made.asked; refused = made.refused }
 
 module _ (k : ℕ) {a : Made} {m c m₁ c₁ : List ℕ} {r : ChildMade} (A : Makes a m c m₁ c₁ r) where
-  makes-stop : (b : Made) {cause : Refusal} {n : ℕ} → r.outcome ≡ outcome.Refused cause → n ≡ k + r.asked
-      → Makes (counted k (then a b)) m c m₁ c₁ (made_refused cause n)
+  makes-stop : (b : Made) {cause : Refusal} {n : ℕ} → r.outcome ≡ Err cause → n ≡ k + r.asked
+      → Makes (counted k (then a b)) m c m₁ c₁ (child_made (Err cause) n)
   unfolding counted
   makes-stop b {cause} {n} e f =
-      subst (λ (x : Made). Makes (counted k x) m c m₁ c₁ (made_refused cause n)) (sym (then-stops a b (outcome-refused a.refused (sym A.outcome ∙ e))))
+      subst (λ (x : Made). Makes (counted k x) m c m₁ c₁ (child_made (Err cause) n)) (sym (then-stops a b (outcome-refused a.refused (sym A.outcome ∙ e))))
       (record { outcome = sym e ∙ A.outcome; asked = f ∙ ap (λ (j : ℕ). k + j) A.asked; parent = A.parent; child = A.child })
 
-  makes-then : (b : Made) {m₂ c₂ : List ℕ} {r₂ : ChildMade} {n : ℕ} → r.outcome ≡ outcome.Done → n ≡ k + r.asked → Makes (counted n b) m₁ c₁ m₂ c₂ r₂
+  makes-then : (b : Made) {m₂ c₂ : List ℕ} {r₂ : ChildMade} {n : ℕ} → r.outcome ≡ Ok tt → n ≡ k + r.asked → Makes (counted n b) m₁ c₁ m₂ c₂ r₂
       → Makes (counted k (then a b)) m c m₂ c₂ r₂
   unfolding counted
   makes-then b {m₂} {c₂} {r₂} e f B =
@@ -173,7 +169,7 @@ going_start numbers cwd bytes ends responses m c h k e = record {
 
 -- the next item of the list
 pub next-item : (cwd bytes : List ℕ) (from : ℕ) (ends : List ℕ) (i : ℕ) (responses : List ℕ) (known : List PromptResponse) {response : PromptResponse}
-    → i < length ends → i < length responses → known_responses responses ≡ Ok known → response_of (get_or responses i 0) ≡ response-read.Response response
+    → i < length ends → i < length responses → known_responses responses ≡ Ok known → response_of (get_or responses i 0) ≡ Some response
     → list_items bytes from (drop i ends) (drop i known)
     ≡ record { descriptor = Path; given = take (get_or ends i 0 - from) (drop from bytes); response = response }
     ∷ list_items bytes (get_or ends i 0) (drop (i + 1) ends) (drop (i + 1) known)
@@ -181,7 +177,7 @@ unfolding list_items
 next-item cwd bytes from ends i responses known h l k e = rw (drop-next ends i h, known-drop responses known i k l e)
 
 module _ {numbers₀ numbers : Numbering} {cwd bytes ends responses m₀ c₀ m c : List ℕ} {asked from i : ℕ} (G : Going numbers₀ numbers cwd bytes ends responses m₀ c₀ m c asked from i)
-    (h : i < length ends) (l : i < length responses) {response : PromptResponse} (e : response_of (get_or responses i 0) ≡ response-read.Response response)
+    (h : i < length ends) (l : i < length responses) {response : PromptResponse} (e : response_of (get_or responses i 0) ≡ Some response)
     {end : ℕ} (f : end ≡ get_or ends i 0) where
   abbrev item : Item
   item = record { descriptor = Path; given = take (end - from) (drop from bytes); response = response }
@@ -212,12 +208,12 @@ module _ {numbers₀ numbers : Numbering} {cwd bytes ends responses m₀ c₀ m 
     pub going-child : length c₁ ≡ length c₀
     going-child = ap length A.child ∙ left-child.same ∙ G.child-length
 
-    pub going-stops : {cause : Refusal} {n : ℕ} {a : ChildMade} → r.outcome ≡ outcome.Refused cause → n ≡ asked + r.asked → a ≡ made_refused cause n
+    pub going-stops : {cause : Refusal} {n : ℕ} → r.outcome ≡ Err cause → n ≡ asked + r.asked
         → (known : List PromptResponse) → known_responses responses ≡ Ok known
-        → Makes (all_items numbers₀ cwd (list_items bytes 0 ends known) (table_of m₀) (table_of c₀)) m₀ c₀ m₁ c₁ a
-    going-stops o n g known k = G.goes known k m₁ c₁ _ (rw (g, first-item known k) (makes-stop asked A _ o n))
+        → Makes (all_items numbers₀ cwd (list_items bytes 0 ends known) (table_of m₀) (table_of c₀)) m₀ c₀ m₁ c₁ (child_made (Err cause) n)
+    going-stops o g known k = G.goes known k m₁ c₁ _ (rw (first-item known k) (makes-stop asked A _ o g))
 
-    pub going_next : {n : ℕ} {next : Numbering} → r.outcome ≡ outcome.Done → n ≡ asked + r.asked
+    pub going_next : {n : ℕ} {next : Numbering} → r.outcome ≡ Ok tt → n ≡ asked + r.asked
         → next ≡ past numbers (item_step numbers cwd item (table_of m) (table_of c)).acts → Going numbers₀ next cwd bytes ends responses m₀ c₀ m₁ c₁ n end (i + 1)
     going_next {n} o g p = record {
       parent = rw A.parent left-parent.holding;
@@ -233,23 +229,20 @@ module _ {numbers₀ numbers : Numbering} {cwd bytes ends responses m₀ c₀ m 
     }
 
 pub going_done : {numbers₀ numbers : Numbering} {cwd bytes ends responses m₀ c₀ m c : List ℕ} {asked from i : ℕ} → Going numbers₀ numbers cwd bytes ends responses m₀ c₀ m c asked from i → length ends ≤ i
-    → {a : ChildMade} → a ≡ made_done asked → (known : List PromptResponse) → known_responses responses ≡ Ok known
-    → Makes (all_items numbers₀ cwd (list_items bytes 0 ends known) (table_of m₀) (table_of c₀)) m₀ c₀ m c a
+    → (known : List PromptResponse) → known_responses responses ≡ Ok known
+    → Makes (all_items numbers₀ cwd (list_items bytes 0 ends known) (table_of m₀) (table_of c₀)) m₀ c₀ m c (child_made (Ok tt) asked)
 unfolding counted list_items all_items outcome_of do_acts
-going_done {ends = ends} {m = m} {c = c} {asked = asked} G l e known k =
-    G.goes known k m c _ (rw (e, drop_of_length-le ends l) (record { outcome = refl; asked = omega arith; parent = refl; child = refl }))
+going_done {ends = ends} {m = m} {c = c} {asked = asked} G l known k =
+    G.goes known k m c _ (rw (drop_of_length-le ends l) (record { outcome = refl; asked = omega arith; parent = refl; child = refl }))
 
 -- ---- the items of any argument
 
-module _ (numbers : Numbering) {arg : ChildUnaryPermissionArg} (cwd bytes ends : List ℕ) (known : List PromptResponse) {m c : List ℕ} {a : ChildMade} where
+module _ (numbers : Numbering) {arg : ChildUnaryPermissionArg} (cwd bytes ends : List ℕ) (known : List PromptResponse) {m c : List ℕ} where
   -- none
-  pub all-inherited : arg ≡ Inherit → a ≡ made_done 0 → Makes (all_items numbers cwd (items_of arg bytes ends known) (table_of m) (table_of c)) m c m c a
+  pub all-none : (arg ≡ Inherit) ⊎ (arg ≡ NotGranted) → Makes (all_items numbers cwd (items_of arg bytes ends known) (table_of m) (table_of c)) m c m c (child_made (Ok tt) 0)
   unfolding items_of all_items outcome_of do_acts
-  all-inherited e f = rw (e, f) (record { outcome = refl; asked = refl; parent = refl; child = refl })
-
-  pub all-refused : arg ≡ NotGranted → a ≡ made_done 0 → Makes (all_items numbers cwd (items_of arg bytes ends known) (table_of m) (table_of c)) m c m c a
-  unfolding items_of all_items outcome_of do_acts
-  all-refused e f = rw (e, f) (record { outcome = refl; asked = refl; parent = refl; child = refl })
+  all-none (inl e) = rw e (record { outcome = refl; asked = refl; parent = refl; child = refl })
+  all-none (inr e) = rw e (record { outcome = refl; asked = refl; parent = refl; child = refl })
 
 -- one
 makes-alone : (a : Made) (o : Option Refusal) {m c m' c' : List ℕ} {r : ChildMade} → a.refused ≡ o → Makes a m c m' c' r → Makes (then a nothing) m c m' c' r
@@ -264,7 +257,7 @@ makes-alone a None {m} {c} {m'} {c'} {r} e A =
 makes-alone a (Some cause) {m} {c} {m'} {c'} {r} e A = subst (λ (x : Made). Makes x m c m' c' r) (sym (then-stops a nothing e)) A
 
 pub all_one : (numbers : Numbering) {arg : ChildUnaryPermissionArg} (cwd bytes ends responses : List ℕ) (known : List PromptResponse) {response : PromptResponse} {m c m' c' : List ℕ} {r : ChildMade}
-    → arg ≡ Granted → 0 < length responses → known_responses responses ≡ Ok known → response_of (get_or responses 0 0) ≡ response-read.Response response
+    → arg ≡ Granted → 0 < length responses → known_responses responses ≡ Ok known → response_of (get_or responses 0 0) ≡ Some response
     → Makes (item_step numbers cwd (record { descriptor = NoPath; given = []; response = response }) (table_of m) (table_of c)) m c m' c' r
     → Makes (all_items numbers cwd (items_of arg bytes ends known) (table_of m) (table_of c)) m c m' c' r
 unfolding items_of granted_item all_items

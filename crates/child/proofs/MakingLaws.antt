@@ -9,8 +9,6 @@ use Rattle.refusals.specs.declared.Refusal.{Refusal}
 use Rattle.refusals.specs.declared.Refusal.TheVariants.{TableFull, NumbersUsedUp, Escalation}
 use Rattle.refusals.specs.Refusals.{when, first_cause, Result}
 use Rattle.paths.specs.Giving.{Query, is_query}
-use Rattle.table.specs.declared.Outcome.{Outcome}
-use Rattle.table.specs.declared.Outcome.TheVariants as outcome
 use Rattle.table.specs.Tables.{Table}
 use Rattle.table.specs.Acts.{Act, is_act, act_overflows, apply_act, apply_acts}
 use Rattle.table.specs.Memory.{table_of, holds, do_acts}
@@ -35,11 +33,11 @@ pub then-goes : (a b : Made) → a.refused ≡ None
 unfolding onward
 then-goes a b e = ap (λ (o : Option Refusal). onward o a b) e
 
-module _ {a : Made} {c c₁ : List ℕ} {r : Outcome} (A : MakesChild a c c₁ r) where
-  pub makes-stop : (b : Made) {cause : Refusal} → r ≡ outcome.Refused cause → MakesChild (then a b) c c₁ r
+module _ {a : Made} {c c₁ : List ℕ} {r : Result Unit} (A : MakesChild a c c₁ r) where
+  pub makes-stop : (b : Made) {cause : Refusal} → r ≡ Err cause → MakesChild (then a b) c c₁ r
   makes-stop b e = subst (λ (x : Made). MakesChild x c c₁ r) (sym (then-stops a b (outcome-refused a.refused (sym A.outcome ∙ e)))) A
 
-  pub makes-then : {b : Made} {c₂ : List ℕ} {r₂ : Outcome} → r ≡ outcome.Done → MakesChild b c₁ c₂ r₂ → MakesChild (then a b) c c₂ r₂
+  pub makes-then : {b : Made} {c₂ : List ℕ} {r₂ : Result Unit} → r ≡ Ok tt → MakesChild b c₁ c₂ r₂ → MakesChild (then a b) c c₂ r₂
   makes-then {b} {c₂} {r₂} e B =
       let goes = then-goes a b (outcome-done a.refused (sym A.outcome ∙ e)) in
       subst (λ (x : Made). MakesChild x c c₂ r₂) (sym goes)
@@ -47,7 +45,7 @@ module _ {a : Made} {c c₁ : List ℕ} {r : Outcome} (A : MakesChild a c c₁ r
 
 -- ---- what the child is granted
 
-granted-by : (over : Bool) (act : Act) {c c' : List ℕ} {r : Outcome}
+granted-by : (over : Bool) (act : Act) {c c' : List ℕ} {r : Result Unit}
     → r ≡ outcome_of (first_cause (when over TableFull ∷ when false NumbersUsedUp ∷ []))
     → c' ≡ do_acts c (acts_of (first_cause (when over TableFull ∷ when false NumbersUsedUp ∷ [])) (Some act))
     → MakesChild (cond over (refused_by TableFull) (record { acts = []; grants = act ∷ []; asked = 0; refused = None })) c c' r
@@ -55,7 +53,7 @@ unfolding first_cause acts_of
 granted-by true act o q = record { outcome = o; child = q }
 granted-by false act o q = record { outcome = o; child = q }
 
-pub grants-carried : {act : Act} {c c' : List ℕ} {r : Outcome} → CarriesOut (Some act) c c' r → MakesChild (granted_by act (table_of c)) c c' r
+pub grants-carried : {act : Act} {c c' : List ℕ} {r : Result Unit} → CarriesOut (Some act) c c' r → MakesChild (granted_by act (table_of c)) c c' r
 unfolding granted_by room_cause first_cause
 grants-carried {act} {c} C = granted-by (act_overflows (table_of c) act) act C.outcome C.memory
 
@@ -78,11 +76,11 @@ unfolding granted_by
 grant-one act u e = granted-one (act_overflows u act) act e
 
 -- what memory has that an act on the child left
-module _ (act : Act) {c c' : List ℕ} {r : Outcome} (h : holds c ≡ true) (f : is_act act ≡ true) (M : MakesChild (granted_by act (table_of c)) c c' r) where
+module _ (act : Act) {c c' : List ℕ} {r : Result Unit} (h : holds c ≡ true) (f : is_act act ≡ true) (M : MakesChild (granted_by act (table_of c)) c c' r) where
   pub granted-held : holds c' ≡ true
   granted-held = rw M.child (grant-acted act c h f).holding
 
-  pub granted-table : r ≡ outcome.Done → table_of c' ≡ apply_act (table_of c) act
+  pub granted-table : r ≡ Ok tt → table_of c' ≡ apply_act (table_of c) act
   unfolding apply_acts
   granted-table e =
       let one = grant-one act (table_of c) (outcome-done _ (sym M.outcome ∙ e)) in
@@ -109,11 +107,11 @@ module _ (state : PermissionState) (q : Query) (u : Table) where
   passed-asked = (passed_none (act_overflows u (grant_act u q)) (passes state) (grant_act u q)).1
 
 module _ (state : PermissionState) (q : Query) {c : List ℕ} where
-  pub passes-not : passes state ≡ false → MakesChild (passed_on state q (table_of c)) c c (outcome.Refused Escalation)
+  pub passes-not : passes state ≡ false → MakesChild (passed_on state q (table_of c)) c c (Err Escalation)
   unfolding passed_on outcome_of do_acts
   passes-not e = rw e (record { outcome = refl; child = refl })
 
-  pub passes_on : {c' : List ℕ} {r : Outcome} → passes state ≡ true → MakesChild (granted_by (grant_act (table_of c) q) (table_of c)) c c' r
+  pub passes_on : {c' : List ℕ} {r : Result Unit} → passes state ≡ true → MakesChild (granted_by (grant_act (table_of c) q) (table_of c)) c c' r
       → MakesChild (passed_on state q (table_of c)) c c' r
   unfolding passed_on
   passes_on e M = rw e M

@@ -24,6 +24,9 @@ use Rattle.child.specs.Calls.{child_call, child_left}
 
 -- ---- steps in memory
 
+abbrev pub child_made : Result Unit → ℕ → ChildMade
+child_made outcome asked = record { outcome = outcome; asked = asked }
+
 -- memory m of the parent and c of the child become m' and c'
 pub record Makes (made : Made) (m c m' c' : List ℕ) (r : ChildMade) : Type 0 where
   pub outcome : r.outcome ≡ outcome_of made.refused
@@ -34,7 +37,7 @@ pub record Makes (made : Made) (m c m' c' : List ℕ) (r : ChildMade) : Type 0 w
 -- ---- the items, with their records
 
 abbrev pub child_sent : Result Unit → ℕ → ℕ → ChildSent
-child_sent outcome asked words = record { made = record { outcome = outcome; asked = asked }; words = words }
+child_sent outcome asked words = record { made = child_made outcome asked; words = words }
 
 -- what is made of the parent's memory, which l lends, and the child's c, and the records of the acts on the parent
 pub record MakesSent (made : Made) (link : Link) (l : Lent) (c : List ℕ) (at : ℕ) (l' : Lent) (c' : List ℕ) (r : ChildSent) : Type 0 where
@@ -77,7 +80,7 @@ pub record Completes (made : Made) (c c' : List ℕ) (r : Result Unit) : Type 0 
 pub record Passed (link : Link) (m w c : List ℕ) (code : ℕ) (list : ItemList) (arg : ChildUnaryPermissionArg) : Type 0 where
   pub parent : holds m ≡ true
   pub child : table_bytes ≤ length c
-  pub link : Admits (length list.ends) link w
+  pub admits : Admits (length list.ends) link w
   pub known : known_arg (arg_of code) ≡ Ok arg
   pub responses : are_responses list.responses ≡ true
   pub ordered : are_in_order arg list.bytes list.ends list.responses ≡ true

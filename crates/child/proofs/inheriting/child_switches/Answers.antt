@@ -6,5 +6,5 @@ use Rattle.child.proofs.inheriting.child_switches.Goals as goal
 pub returns-then-has : goal.returns-then-has
 returns-then-has c = switches-granted _ _ (sym c.has.ensures ∙ c.if-has.true) c.set_bit.ensures
 
-pub returns : goal.returns
-returns c = switches-cleared _ _ (sym c.has.ensures ∙ c.if-has.false) c.clear_bit.ensures
+pub returns-else-has : goal.returns-else-has
+returns-else-has c = switches-cleared _ _ (sym c.has.ensures ∙ c.if-has.false) c.clear_bit.ensures

@@ -16,6 +16,16 @@ use Rattle.table.specs.Carrying.{room_cause, acts_of, outcome_of, CarriesOut}
 use Rattle.table.proofs.Puts.{valid-of}
 use Rattle.table.proofs.ActLaws.{acts-append, Acted, acted-none, acted-one, outcome-done, outcome-refused}
 use Rattle.walk.specs.declared.PermissionState.{PermissionState}
+use Rattle.walk.specs.declared.PermissionState.TheVariants.{
+  Granted,
+  GrantedPartial,
+  Prompt,
+  Denied,
+  DeniedPartial,
+  Ignored,
+}
+use Rattle.walk.specs.contracts.PermissionState.{the_type}
+use denote.Enum.Bare.{sameb}
 use Rattle.deciding.specs.Decisions.{Decision, grant_act, passes}
 use Rattle.calls.specs.Calls.{decided_acts}
 use Rattle.deciding.proofs.FittingLaws.{grant-fits}
@@ -87,6 +97,16 @@ module _ (act : Act) {c c' : List ℕ} {r : Result Unit} (h : holds c ≡ true) 
       ap table_of M.child ∙ (grant-acted act c h f).table ∙ ap (apply_acts (table_of c)) one
 
 -- ---- what passes
+
+-- what `==` says of a state that passes
+pub same-pass : (state : PermissionState) → sameb the_type state Granted ≡ passes state
+unfolding passes
+same-pass Granted = refl
+same-pass GrantedPartial = refl
+same-pass Prompt = refl
+same-pass Denied = refl
+same-pass DeniedPartial = refl
+same-pass Ignored = refl
 
 passed_none : (over passed : Bool) (act : Act)
     → ((cond passed (cond over (refused_by TableFull) (record { acts = []; grants = act ∷ []; asked = 0; refused = None })) (refused_by Escalation)).acts ≡ [])

@@ -49,12 +49,13 @@ fn complete(parent: &[u8], child: &mut [u8], items: Result<(), Refusal>) -> Resu
     requires { (holds parent.now ≡ true) × (holds child.old ≡ true) }
     ensures { Completes (after_items items (take_over (table_of parent.now) (table_of child.old))) child.old child.new result }
 {
+    // not `and_then`: it does not say what a closure that is not called leaves of the child
     let outcome = match items {
         Ok(()) => take_over(parent, child),
         Err(cause) => Err(cause),
     };
     if outcome.is_err() {
-        make_fresh(child)?;
+        make_fresh(child).unwrap();
     }
     outcome
 }

@@ -2,7 +2,7 @@
 use native.Mathlib.Omega.{arith}
 use Rattle.child.specs.Arguments.{responses_due}
 use Rattle.child.proofs.ArgumentLaws.{due-many, listed}
-use Rattle.child.proofs.GrantingLaws.{one-ready, sent-inherited, sent-refused, sent-one, sent-list}
+use Rattle.child.proofs.GrantingLaws.{one-ready, sent-none, sent-one, sent-list}
 use Rattle.child.proofs.granting.grant_all.Goals as goal
 
 pub response_at-requires : goal.response_at-requires
@@ -18,10 +18,7 @@ grant_items-requires c =
     (pre.parent_value.0, pre.parent_value.1, listed _ _ _ _ c.in-GrantedList.is pre.responses_value.1 pre.responses_value.0, pre.admits)
 
 pub returns-in-Inherit : goal.returns-in-Inherit
-returns-in-Inherit c = λ known k. sent-inherited _ _ _ known c.in-Inherit.is c.done.ensures
-
-pub returns-in-NotGranted : goal.returns-in-NotGranted
-returns-in-NotGranted c = λ known k. sent-refused _ _ _ known c.in-NotGranted.is c.done-in-NotGranted.ensures
+returns-in-Inherit c = λ known k. sent-none _ _ _ known c.in-Inherit.is c.new.ensures
 
 pub returns-in-Granted : goal.returns-in-Granted
 unfolding responses_due

@@ -1,28 +1,20 @@
 use mathlib.Core.Path.{refl, ◌∙◌}
 use native.Mathlib.Omega.{arith}
 use Rattle.items.proofs.ItemListLaws.{closing-next}
-use Rattle.child.proofs.GrantingLaws.{sent-start, sent-room, sent-once, sent-parent, sent-child, sent-stops, sent-next, sent-done}
+use Rattle.child.proofs.GrantingLaws.{sent-start, sent-room, sent-once, sent-stops, sent-next, sent-done}
 use Rattle.child.proofs.granting.grant_items.Goals as goal
 
 pub loop-i-init : goal.loop-i-init
 loop-i-init c = let pre = c.requires in sent-start _ _ _ _ _ _ _ _ _ pre.0 pre.1 pre.2.closes pre.3
 
-pub overflow_cast-end : goal.overflow_cast-end
-overflow_cast-end c = omega (arith, c.type_inv.ends c.loop-i.i)
-
 pub slice_bounds-grant_item-count : goal.slice_bounds-grant_item-count
-slice_bounds-grant_item-count c = let lies = closing-next _ _ _ _ c.loop-i-test.true c.loop-i.invariant.items.closes in omega arith
+slice_bounds-grant_item-count c = (closing-next _ _ _ _ c.loop-i-test.true c.loop-i.invariant.items.closes).rises
 
 pub slice_bounds-grant_item-start : goal.slice_bounds-grant_item-start
-slice_bounds-grant_item-start c =
-    (closing-next _ _ _ _ c.loop-i-test.true c.loop-i.invariant.items.closes).rises
+slice_bounds-grant_item-start c = (closing-next _ _ _ _ c.loop-i-test.true c.loop-i.invariant.items.closes).rises
 
 pub slice_bounds-grant_item-end : goal.slice_bounds-grant_item-end
-slice_bounds-grant_item-end c =
-    (closing-next _ _ _ _ c.loop-i-test.true c.loop-i.invariant.items.closes).within
-
-pub response_at-requires : goal.response_at-requires
-response_at-requires c = let listed = c.requires.2 in (listed.known, omega (arith, listed.many))
+slice_bounds-grant_item-end c = (closing-next _ _ _ _ c.loop-i-test.true c.loop-i.invariant.items.closes).within
 
 pub grant_item-sent-requires : goal.grant_item-sent-requires
 grant_item-sent-requires c =
@@ -34,43 +26,15 @@ overflow_add-asked c =
     let listed = c.requires.2 in
     omega (arith, c.loop-i.invariant.items.few, listed.few, sent-once c.loop-i.invariant c.loop-i-test.true (omega (arith, listed.many)) c.response_at.ensures refl c.grant_item-sent.ensures)
 
-pub shape_of-parent-in-Refused : goal.shape_of-parent-in-Refused
-shape_of-parent-in-Refused c =
+pub returns-in-Err : goal.returns-in-Err
+returns-in-Err c =
     let listed = c.requires.2 in
-    sent-parent c.loop-i.invariant c.loop-i-test.true (omega (arith, listed.many)) c.response_at.ensures refl c.grant_item-sent.ensures
-
-pub shape_of-child-in-Refused : goal.shape_of-child-in-Refused
-shape_of-child-in-Refused c =
-    let listed = c.requires.2 in
-    sent-child c.loop-i.invariant c.loop-i-test.true (omega (arith, listed.many)) c.response_at.ensures refl c.grant_item-sent.ensures
-
-pub shape_of-words-in-Refused : goal.shape_of-words-in-Refused
-shape_of-words-in-Refused c =
-    let listed = c.requires.2 in
-    c.grant_item-sent.auto.words ∙ c.loop-i.invariant.same-words
-
-pub returns-in-Refused : goal.returns-in-Refused
-returns-in-Refused c =
-    let listed = c.requires.2 in
-    sent-stops c.loop-i.invariant c.loop-i-test.true (omega (arith, listed.many)) c.response_at.ensures refl c.grant_item-sent.ensures c.in-Refused.is refl c.refused.ensures
-
-pub overflow_add-i : goal.overflow_add-i
-overflow_add-i c =
-    omega (arith, c.loop-i-test.true, c.requires.2.few)
+    sent-stops c.loop-i.invariant c.loop-i-test.true (omega (arith, listed.many)) c.response_at.ensures refl c.grant_item-sent.ensures c.in-Err.is refl c.new.ensures
 
 pub loop-i-preserved : goal.loop-i-preserved
 loop-i-preserved c =
     let listed = c.requires.2 in
     sent-next c.loop-i.invariant c.loop-i-test.true (omega (arith, listed.many)) c.response_at.ensures refl c.grant_item-sent.ensures c.in_default.is refl c.grant_item-sent.auto.words
 
-pub shape_of-parent : goal.shape_of-parent
-shape_of-parent c = c.loop-i.invariant.items.same-parent
-
-pub shape_of-child : goal.shape_of-child
-shape_of-child c = c.loop-i.invariant.items.child-length
-
-pub shape_of-words : goal.shape_of-words
-shape_of-words c = c.loop-i.invariant.same-words
-
 pub returns : goal.returns
-returns c = sent-done c.loop-i.invariant c.loop-i-test.false c.done.ensures
+returns c = sent-done c.loop-i.invariant c.loop-i-test.false c.new-2.ensures

@@ -1,13 +1,14 @@
 -- `pass_on` meets its contract: 10 where the check fails, and else the grant is carried out.
-use mathlib.Core.Path.{sym, ◌∙◌}
+use Rattle.std.proofs.Common.{arith}
+use Rattle.std.proofs.lemmas.Grind.{common_steps}
 use Rattle.table.specs.Carrying.{fits}
 use Rattle.table.proofs.Puts.{valid-of}
 use Rattle.deciding.proofs.FittingLaws.{grant-fits}
-use Rattle.child.proofs.MakingLaws.{grants-carried, passes-not, passes_on}
+use Rattle.child.proofs.MakingLaws.{grants-carried, passes-not, passes_on, same-pass}
 use Rattle.child.proofs.granting.pass_on.Goals as goal
 
-pub returns-then-not-is_passed : goal.returns-then-not-is_passed
-returns-then-not-is_passed c = passes-not _ _ (sym c.is_passed.ensures ∙ c.if-not-is_passed.true)
+pub returns-then-ne : goal.returns-then-ne
+returns-then-ne c = passes-not _ _ (grind (arith, common_steps, same-pass c.args.state))
 
 pub carry_out-requires : goal.carry_out-requires
 unfolding fits
@@ -16,5 +17,5 @@ carry_out-requires c =
 
 pub returns : goal.returns
 returns c =
-    passes_on _ _ (sym c.is_passed.ensures ∙ c.if-not-is_passed.false)
+    passes_on _ _ (grind (arith, common_steps, same-pass c.args.state))
     (grants-carried (rw (c.grant_action-action.ensures c.args.q.now) at c.carry_out.ensures))

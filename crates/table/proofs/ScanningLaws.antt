@@ -216,9 +216,6 @@ pub record Scans (m : List ℕ) (all left room seen at : ℕ) : Type 0 where
   pub small : seen ≤ 7
   pub goes : scanned m all max_path_bytes 0 table_head ≡ scanned m left room seen at
 
-pub scans-start : (m : List ℕ) (n : ℕ) → table_bytes ≤ length m → n ≤ max_entries → Scans m n n max_path_bytes 0 table_head
-scans-start m n long few = record { inside = omega arith; small = omega arith; goes = refl }
-
 module _ {m : List ℕ} {all left room seen at : ℕ} (h : 0 < left) (S : Scans m all left room seen at) where
   step : scanned m left room seen at
       ≡ entry_fits m room at && scanned m (left - 1) (room - len_at m at) (marked (entry_at m at).kind seen) (next_at m at)

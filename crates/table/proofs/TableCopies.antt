@@ -1,18 +1,18 @@
 -- A table that is copied to other memory: the bytes up to where its entries end are the table. And one that is written there as a whole: its entries one
 -- behind the other, and then what stands before them.
-use Prim.Native.Nat.{ℕ, ◌+◌, ◌-◌, ◌≤◌}
+use Prim.Native.Nat.{ℕ, ◌≤◌}
 use mathlib.Core.Path.{◌≡◌, ap, ◌∙◌}
 use mathlib.Core.List.{List}
 use mathlib.Core.Bool.{true}
 use native.Mathlib.Omega.{arith}
 use native.Mathlib.Nat.{zero-add}
-use lib.ListN.{length, take, drop}
+use lib.ListN.{length, take}
 use Rattle.paths.specs.Components.{Bytes}
 use Rattle.paths.specs.Copying.{overwrite, Appends}
 use Rattle.table.specs.Tables.{Table, is_table}
 use Rattle.table.specs.Memory.{table_head, table_bytes, table_of, holds, head_bytes, encode_all, encode, put}
 use Rattle.table.specs.Listing.{used_bytes}
-use Rattle.table.proofs.Puts.{valid-of, encode-fits}
+use Rattle.table.proofs.Puts.{encode-fits}
 use Rattle.table.proofs.Codec.{length-encode_all, length-encode}
 use Rattle.table.proofs.Overwrites.{over_below}
 use Rattle.table.proofs.ListingLaws.{used-front}
@@ -20,9 +20,6 @@ use Rattle.table.proofs.ListingLaws.{used-front}
 module _ (p : List ℕ) (b : Bytes p) (h : holds p ≡ true) {end : ℕ} (e : end ≡ used_bytes (table_of p)) where
   copied : take end p ≡ encode (table_of p)
   copied = rw e (used-front p b h)
-
-  pub copy-fits : {k : ℕ} → table_bytes ≤ k → 0 + length (take end p) ≤ k
-  copy-fits long = rw copied (omega (arith, encode-fits (table_of p) (valid-of p h)))
 
   pub copy-law : (c : List ℕ) {c' : List ℕ} → c' ≡ overwrite c 0 (take end p) → c' ≡ put (table_of p) c
   unfolding overwrite put

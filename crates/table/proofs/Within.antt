@@ -6,7 +6,7 @@ use mathlib.Core.List.{List, [], ◌∷◌}
 use mathlib.Core.Bool.{true, ◌&&◌}
 use native.Mathlib.Omega.{arith}
 use native.Mathlib.Nat.{not-suc-le-zero, le_of_suc-le-suc, suc-sub-suc, sub-zero}
-use lib.ListN.{length, get_or, take, drop, length-drop}
+use lib.ListN.{length, get_or, drop, length-drop}
 use lib.Seq.{length-take-le}
 use lib.Dec.{leb}
 use borrow.Author.Tests.{leb-true, le-leb, lt-leb}
@@ -188,12 +188,6 @@ pub record Here (m : List ℕ) (at : ℕ) : Type 0 where
 -- the path of an entry that lies within the memory has the length that the entry says
 pub length-path : (m : List ℕ) (at : ℕ) → next_at m at ≤ length m → length (entry_at m at).path ≡ len_at m at
 length-path m at h = length-take-le (len_at m at) (drop (at + entry_head) m) (simp length-drop (omega arith))
-
--- the bytes behind an entry's head are its path
-pub path-lent : (m : List ℕ) (at n : ℕ) → n ≡ len_at m at → take (at + entry_head + n - (at + entry_head)) (drop (at + entry_head) m) ≡ (entry_at m at).path
-path-lent m at n e =
-    let k : at + entry_head + n - (at + entry_head) ≡ len_at m at = omega arith in
-    ap (λ (j : ℕ). take j (drop (at + entry_head) m)) k
 
 -- where a definition recurses
 module _ {m : List ℕ} {n at : ℕ} (r : Rest m (suc n) at) where

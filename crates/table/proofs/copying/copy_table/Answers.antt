@@ -3,15 +3,11 @@ use mathlib.Core.Path.{sym}
 use native.Mathlib.Omega.{arith}
 use lib.Seq.{length-take-le}
 use Rattle.table.proofs.Puts.{long_of}
-use Rattle.table.proofs.TableCopies.{copy-fits, copy-law}
+use Rattle.table.proofs.TableCopies.{copy-law}
 use Rattle.table.proofs.copying.copy_table.Goals as goal
 
 pub slice_bounds-copy_in-end : goal.slice_bounds-copy_in-end
 slice_bounds-copy_in-end c = sym (length-take-le _ _ (omega (arith, long_of _ c.requires.0)))
-
-pub copy_in-requires : goal.copy_in-requires
-copy_in-requires c =
-    copy-fits _ (record { each = λ i. (c.type_inv.from i).fits }) c.requires.0 c.used-end.ensures.0 c.requires.1
 
 pub returns : goal.returns
 returns c =

@@ -1,14 +1,10 @@
 use mathlib.Core.Path.{sym, ◌∙◌}
 use native.Mathlib.Omega.{arith}
 use Rattle.table.specs.Memory.{entry_head}
-use Rattle.table.proofs.ScanningLaws.{scans-start, scans-bad, scans-next, scans-end, fits-parts, mark_of}
+use Rattle.table.proofs.ScanningLaws.{scans-bad, scans-next, scans-end, fits-parts, mark_of}
 use Prim.Native.Nat.{◌+◌, ◌-◌}
 use mathlib.Core.Path.{◌≡◌}
-use native.Mathlib.Nat.{sub-zero}
 use Rattle.table.proofs.holding.entries_fit.Goals as goal
-
-pub loop-init : goal.loop-init
-loop-init c = rw (sub-zero c.args.count) (scans-start _ _ c.requires.0 c.requires.1)
 
 pub returns-then-not-entry_fits : goal.returns-then-not-entry_fits
 returns-then-not-entry_fits c =

@@ -3,7 +3,7 @@ use Prim.Native.Nat.{ℕ}
 use mathlib.Core.Path.{◌≡◌, ap, ◌∙◌}
 use native.Mathlib.Omega.{arith}
 use Rattle.std.proofs.Common.{rules}
-use lib.ListN.{length, length-set}
+use lib.ListN.{length}
 use Rattle.table.specs.Memory.{table_head, word_at, offset_at}
 use Rattle.table.proofs.Within.{held, marks-of}
 use Rattle.table.proofs.Inserts.{Room, room, insert-steps}
@@ -46,9 +46,6 @@ set_count-requires c = omega (arith, (held _ c.requires.mem_value).long)
 
 pub bounds-mem-3-2 : goal.bounds-mem-3-2
 bounds-mem-3-2 c = omega (arith, (held _ c.requires.mem_value).long)
-
-pub shape_of-mem : goal.shape_of-mem
-shape_of-mem c = simp length-set (c.set_count.auto.mem ∙ c.write_entry.auto.mem ∙ c.move_bytes.auto.mem)
 
 pub returns : goal.returns
 returns c =

@@ -18,9 +18,6 @@ pub compare_at-requires : goal.compare_at-requires
 compare_at-requires c =
     half-inside c.loop-size.invariant (omega arith) c.hop-middle.ensures c.requires
 
-pub overflow_add-base : goal.overflow_add-base
-overflow_add-base c = omega (arith, (held _ c.requires).few)
-
 pub loop-size-preserved-then-is_le : goal.loop-size-preserved-then-is_le
 loop-size-preserved-then-is_le c =
     probing-moves c.loop-size.invariant (omega arith) c.hop-middle.ensures _ c.compare_at.ensures (sym c.is_le.ensures ∙ c.if-is_le.true)

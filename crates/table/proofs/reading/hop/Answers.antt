@@ -1,8 +1,7 @@
 use Prim.Native.Nat.{◌+◌, ◌-◌, ◌≤◌, ◌<◌}
-use mathlib.Core.Path.{◌≡◌, refl, sym, ◌∙◌}
+use mathlib.Core.Path.{◌≡◌, sym, ◌∙◌}
 use native.Mathlib.Omega.{arith}
 use lib.ListN.{length}
-use native.Mathlib.Nat.{sub-zero}
 use Rattle.table.specs.Memory.{entry_head, next_at}
 use Rattle.table.proofs.Within.{within-inside, within-next, offset_at-step, offset_at-none}
 use Rattle.table.proofs.reading.hop.Goals as goal
@@ -11,9 +10,6 @@ use Rattle.table.proofs.reading.hop.Goals.{In-loop}
 -- the entry at `at` lies within the memory
 inside : (c : In-loop) → next_at c.args.mem.now c.loop.at ≤ length c.args.mem.now
 inside c = within-inside _ _ (omega arith) _ c.loop.invariant.0
-
-pub loop-init : goal.loop-init
-loop-init c = rw (sub-zero c.args.n) (c.requires, refl)
 
 pub overflow_add-at : goal.overflow_add-at
 overflow_add-at c = omega (arith, inside (goal.at.overflow_add-at c).In-loop)

@@ -60,9 +60,6 @@ pub overflow_add-to : goal.overflow_add-to
 overflow_add-to g c =
     omega (arith, inside g (goal.at.overflow_add-to g c).In-loop, c.loop.invariant.order, c.word_at-size.ensures.0)
 
-pub overflow_add-kept : goal.overflow_add-kept
-overflow_add-kept g c = omega (arith, c.loop.invariant.few, (held _ c.requires.mem_value).few)
-
 pub overflow_add-from-in-loop : goal.overflow_add-from-in-loop
 overflow_add-from-in-loop g c =
     omega (arith, inside g (goal.at.overflow_add-from-in-loop g c).In-loop, c.word_at-size.ensures.0)
@@ -70,7 +67,7 @@ overflow_add-from-in-loop g c =
 pub loop-preserved : goal.loop-preserved
 loop-preserved g c =
     let e : c.word_at-end.result - (c.loop.counter + 1) ≡ c.word_at-end.result - c.loop.counter - 1 = omega arith in
-    let size : c.word_at-size.result + entry_head ≡ len_at c.loop.mem c.loop.from + entry_head = ap (λ (n : ℕ). n + entry_head) c.word_at-size.ensures.0 in
+    let size : c.word_at-size.result + entry_head ≡ len_at c.loop.mem c.loop.from + entry_head = omega (arith, c.word_at-size.ensures.0) in
     let by = goes-by g (goal.at.loop-preserved g c).Joined-eq in
     elim c.if-not-goes.branch [
       | then-not-goes w ↦

@@ -8,9 +8,3 @@ returns-then-not-holds_table c = sym (no_table _ (sym c.holds_table.ensures ∙ 
 
 pub returns : goal.returns
 returns c = sym (a-table _ (sym c.holds_table.ensures ∙ c.if-not-holds_table.false))
-
-pub invariant_of-result : goal.invariant_of-result
-invariant_of-result c = record {
-  holding = sym c.holds_table.ensures ∙ c.if-not-holds_table.false;
-  bytes = record { each = λ i. (c.type_inv.mem i).fits };
-}

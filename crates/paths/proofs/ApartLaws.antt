@@ -6,7 +6,7 @@ use mathlib.Core.Bool.{Bool, true, false, ◌&&◌, not-eq-not, false≢true}
 use native.Mathlib.Omega.{arith}
 use native.Mathlib.Decide.{dec_lt}
 use lib.ListN.{length, get_or, get_or-append}
-use borrow.Author.Tests.{eq-eqb, eqb-true, lt-ltb, le-ltb}
+use borrow.Author.Tests.{eq-eqb, eqb-true}
 use Rattle.paths.specs.Components.{same, components, slash, slashed, spell}
 use Rattle.paths.specs.Resolving.{is_resolved}
 use Rattle.paths.specs.Relations.{is_prefix}
@@ -69,6 +69,8 @@ module _ {p q : List ℕ} where
       (at (i + 5) (omega arith) (omega arith)))
       (at (i + 6) (omega arith) (omega arith)))
       (at (i + 7) (omega arith) (omega arith))
+
+pub ruleset eights = (same_none, same-eight-more, same_rest, eight-same)
 
 -- ---- a prefix of a resolved path is its front
 

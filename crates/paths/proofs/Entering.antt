@@ -1,7 +1,7 @@
 -- Laws of resolving in bytes: what is written over a work area, the last slash, and components entered in turn.
 use Rattle.std.specs.Prelude.{Option, None, Some, MatchOption}
 use Rattle.std.specs.Option.{unwrap_or}
-use Prim.Native.Nat.{ℕ, suc, ◌+◌, ◌-◌, ◌≤◌, ◌<◌}
+use Prim.Native.Nat.{ℕ, suc, ◌+◌, ◌≤◌, ◌<◌}
 use mathlib.Core.Path.{◌≡◌, refl, sym, ap, ◌∙◌}
 use mathlib.Core.List.{List, [], ◌∷◌, ◌++◌, drop_last, append_assoc, append-nil, nil≢cons}
 use mathlib.Core.Bool.{Bool, true, false, ◌&&◌, ◌||◌, not, cond, false≢true}
@@ -45,6 +45,8 @@ name-added w w' n c h e = record {
   front = ap (take (n + 1 + length c)) e ∙ take-over (set w n slash) (n + 1) c (simp length-set h)
       ∙ ap (λ (l : List ℕ). l ++ c) (take-stored w n slash (omega arith)) ∙ append_snoc (take n w) slash c;
 }
+
+pub ruleset adding = (name-added, length-set)
 
 -- ---- the last slash
 
@@ -95,7 +97,7 @@ pub begins_last : (w : List ℕ) (r : Option ℕ) → LastSlash w r → Begins w
 begins_last w None h = record { few = omega arith; front = sym (before_last_none (unslashed_by w h)) }
 begins_last w (Some i) h =
     let behind : Unslashed (drop (suc i) w) =
-        unslashed_by _ (λ k l. rw get_or-drop (h.2 (suc i + k) (omega arith) (omega (arith, length-drop (suc i) w)))) in
+    unslashed_by _ (λ k l. rw get_or-drop (h.2 (suc i + k) (omega arith) (omega (arith, length-drop (suc i) w)))) in
     let parts : w ≡ take i w ++ slash ∷ drop (suc i) w = rw h.1 at (split_at w i 0 h.0) in
     record {
       few = omega (arith, h.0);
@@ -175,8 +177,8 @@ module _ {w₀ : List ℕ} {len : ℕ} {src w : List ℕ} {n : ℕ} where
 
 -- a `for` over the parts that `split` gives, which has had xs: at a turn one component and those behind it, at the end none
 module _ {F : Type 0} {g : Mut F (Bor ℕ × Unit {0}) Bool} {f : F} {s i : Split ℕ F} (src : List ℕ)
-  (begun : i ≡ s) (rest : split_rest s ≡ src) (left : split_done s ≡ false) (closure : split_callee s ≡ f)
-  (xs : List (Bor (List ℕ))) (t : Split ℕ F) (so_far : Yields (split_steps g) i xs t) where
+    (begun : i ≡ s) (rest : split_rest s ≡ src) (left : split_done s ≡ false) (closure : split_callee s ≡ f)
+    (xs : List (Bor (List ℕ))) (t : Split ℕ F) (so_far : Yields (split_steps g) i xs t) where
   parts : ((x : ℕ) (b : Bool) (q : F) → CalledAt g f x b q → (q ≡ f) × (b ≡ eqb x slash)) → YieldsList (split_steps g) (λ x. x.now) i (slice_split (λ b. eqb b slash) src)
   parts slashes = YieldsList-at begun (YieldsList-from_slice_split g (λ b. eqb b slash) src rest left closure slashes)
 

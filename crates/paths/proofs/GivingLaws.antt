@@ -6,6 +6,7 @@ use mathlib.Core.List.{List, []}
 use mathlib.Core.Bool.{true}
 use native.Mathlib.Omega.{arith}
 use lib.ListN.{length, take}
+use lib.Seq.{length-take-le}
 use borrow.Author.Tests.{le-leb, ltb-false}
 use Rattle.refusals.specs.declared.Refusal.{Refusal}
 use Rattle.refusals.specs.Refusals.{first_cause, Result, and_then, unless}
@@ -171,3 +172,5 @@ given-fits d p cwd {q} e =
     let S = given-stands d p cwd [] e in
     let same : query_of d (take (given_size d p cwd) (given_into d p cwd [])) ≡ q = cc S.query in
     subst (λ (x : Query). is_query x ≡ true) same S.fits
+
+pub ruleset comparing = (resolves-ok, resolves-room, length-take-le, compare-found)

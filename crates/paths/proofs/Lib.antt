@@ -11,3 +11,4 @@ pub mod Answering
 pub mod GivingLaws
 pub mod ByteLaws
 pub mod ApartLaws
+pub mod EightLaws

@@ -158,6 +158,7 @@ module _ (p : List ℕ) (i : ℕ) where
 
 -- what a rank is, and what a slash is behind
 pub ruleset ranks = (rank-end, rank-slash, rank-byte)
+
 pub ruleset slashes = (rank-byte, slash-passed)
 
 -- two bytes of one rank are the same
@@ -300,3 +301,5 @@ module _ {p q : List ℕ} {n i₀ end i j : ℕ} (s : Inside p q n i₀ end i j)
 
   pub inside-differs : (get_or p i 0 ≡ get_or q j 0 → ⊥) → rank_of (drop i p) ≡ rank_of (drop j q) → ⊥
   inside-differs m e = m (rank_same _ _ (sym (rank-at p i h) ∙ e ∙ rank-at q j k))
+
+pub ruleset between = (answered, between_start, both_end, first_ends, second-ends)

@@ -1,35 +1,19 @@
 -- Laws of scanning: components as `split` gives them, names, and resolved form by names.
 use Prim.Native.Nat.{ℕ, suc, ◌+◌, ◌-◌, ◌≤◌, ◌<◌}
 use mathlib.Core.Path.{◌≡◌, refl, sym, ap, ◌∙◌}
-use mathlib.Core.List.{List, [], ◌∷◌, ◌++◌, tail-eq_of_cons-eq, nil≢cons}
+use mathlib.Core.List.{List, [], ◌∷◌, tail-eq_of_cons-eq, nil≢cons}
 use mathlib.Core.Bool.{Bool, true, false, ◌&&◌, not, cond, false≢true}
 use native.Mathlib.Omega.{arith}
-use native.Mathlib.Numerals.{add-one}
-use lib.ListN.{length, get_or, take, drop, length-drop, take-append-drop}
-use lib.Seq.{take-suc, drop-cons, drop-drop, get_or-drop, take_all}
+use lib.ListN.{length, get_or, take, drop}
+use lib.Seq.{take_all}
 use lib.Dec.{eqb}
 use Rattle.std.specs.List.{slice_split, onto_first, list_all}
 use borrow.Author.Count.{below_more}
-use borrow.Author.Tests.{le-leb, lt-leb, ne_eqb, eq-eqb, eqb-true, eqb-false}
+use borrow.Author.Tests.{ne_eqb, eq-eqb, eqb-true, eqb-false}
 use Rattle.paths.specs.Components.{slash, dot, same, grown, parted, pieces, slashed, spell}
 use Rattle.paths.specs.Resolving.{is_absolute, is_name, entered, enter_all, normalize, is_resolved}
 use Rattle.paths.specs.Scanning.{all_names, plain_pair, PlainBelow, plain_at, plain_eight}
-use Rattle.paths.proofs.ComponentLaws.{
-  and_left,
-  and_right,
-  and_both,
-  Unslashed,
-  none,
-  more,
-  Each,
-  nil,
-  cons,
-  pieces-slash,
-  pieces-byte,
-  pieces-unslashed,
-  pieces-slashed,
-  slashed-pieces,
-}
+use Rattle.paths.proofs.ComponentLaws.{and_left, and_right, and_both, Unslashed, Each, nil, cons, pieces-slash, pieces-byte, pieces-unslashed, pieces-slashed, slashed-pieces}
 use Rattle.paths.proofs.ResolvingLaws.{Name, Spelled, resolved-spelled, spelled-resolved, resolved-absolute}
 
 -- ---- slashes part a path as std's `split` does
@@ -259,3 +243,5 @@ module _ (p : List ℕ) where
       plain-fewer m (at + 8) k
       (plain-tested at 7 (plain-tested at 6 (plain-tested at 5 (plain-tested at 4 (plain-tested at 3 (plain-tested at 2 (plain-tested at 1
       (plain_more at (plain-fewer at n h f)))))))) t)
+
+pub ruleset plain = (plain-none, plain-eight, plain-resolved)

@@ -1,6 +1,6 @@
 -- Scanning a path: whether its components are names, and what the quick test `is_plain` looks at.
-use Rattle.std.specs.Prelude.{ℕ, ◌+◌, ◌-◌, ◌≤◌, ◌<◌, ◌≡◌, List, [], ◌∷◌, Bool, true, ◌&&◌, ◌||◌, not, cond, length, get_or, take, drop, eqb, leb}
-use Rattle.paths.specs.Components.{slash, dot, pieces}
+use Rattle.std.specs.Prelude.{ℕ, ◌+◌, ◌<◌, ◌≡◌, List, [], ◌∷◌, Bool, true, ◌&&◌, ◌||◌, not, get_or, eqb}
+use Rattle.paths.specs.Components.{slash, dot}
 use Rattle.paths.specs.Resolving.{is_name}
 
 unfoldable pub all_names : List (List ℕ) → Bool

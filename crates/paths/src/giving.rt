@@ -9,6 +9,7 @@ use crate::{Comparison, Descriptor, MAX_PATH};
 use refusals::Refusal;
 
 // Resolves what is given into the space, from its start, and says how long it is then; with no path there is nothing to resolve.
+#[tactic(auto, unfolding(crate::specs::Giving::given_resolution, crate::specs::Giving::given_into))]
 pub fn resolve_given(
     d: Descriptor,
     path: &[u8],
@@ -24,6 +25,7 @@ pub fn resolve_given(
 }
 
 // How a path relates to another, both as given with one working directory, and how many leading components they share.
+#[tactic(auto, using(crate::proofs::GivingLaws::comparing))]
 pub fn relate_given(first: &[u8], second: &[u8], cwd: &[u8]) -> Result<Comparison, Refusal>
     ensures { result ≡ compare_call first.now second.now cwd.now }
 {

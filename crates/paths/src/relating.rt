@@ -32,6 +32,7 @@ fn next_component(p: &[u8], i: usize) -> usize
 
 // How p relates to q, the same components, those of one at the start of the other's, and else by path order; and how many leading components they
 // share. Each turn of the outer loop is over one component of both, each turn of the inner one over one byte of it.
+#[tactic(auto, using(crate::proofs::RelatingLaws::between))]
 pub fn relate(p: &[u8], q: &[u8]) -> Comparison
     ensures { result ≡ comparison p.now q.now }
 {
@@ -42,16 +43,12 @@ pub fn relate(p: &[u8], q: &[u8]) -> Comparison
         i = next_component(p, i);
         j = next_component(q, j);
         if i == p.len() {
-            if j == q.len() {
-                return Comparison {
-                    relation: Relation::Equal,
-                    common,
-                };
-            }
-            return Comparison {
-                relation: Relation::Prefix,
-                common,
+            let relation = if j == q.len() {
+                Relation::Equal
+            } else {
+                Relation::Prefix
             };
+            return Comparison { relation, common };
         }
         if j == q.len() {
             return Comparison {
@@ -61,6 +58,7 @@ pub fn relate(p: &[u8], q: &[u8]) -> Comparison
         }
         // where in p the first of the two paths ends
         let end = i + (p.len() - i).min(q.len() - j);
+        // by index: measured, `position` over both paths zipped is slower
         loop {
             if i == end {
                 // one path ends: the component of the other must end with it
@@ -81,17 +79,12 @@ pub fn relate(p: &[u8], q: &[u8]) -> Comparison
         // both have this component, whole
         common += 1;
     }
-    if rank(p, i) < rank(q, j) {
-        Comparison {
-            relation: Relation::Less,
-            common,
-        }
+    let relation = if rank(p, i) < rank(q, j) {
+        Relation::Less
     } else {
-        Comparison {
-            relation: Relation::Greater,
-            common,
-        }
-    }
+        Relation::Greater
+    };
+    Comparison { relation, common }
 }
 
 // Whether p is a prefix of q, by whole components.
@@ -102,27 +95,25 @@ pub fn is_prefix(p: &[u8], q: &[u8]) -> bool
     matches!(relate(p, q).relation, Relation::Equal | Relation::Prefix)
 }
 
-// Whether the eight bytes from i on are the same in both. With no branch between them they are compared at once.
+// Whether the eight bytes from i on are the same in both. `&` and no `all`: with no branch between them they are compared at once.
 fn same_eight(p: &[u8], q: &[u8], i: usize) -> bool
     requires { (i + 8 ≤ length p.now) × (i + 8 ≤ length q.now) }
     ensures { result ≡ same_eight p.now q.now i }
 {
-    (p[i] == q[i])
-        & (p[i + 1] == q[i + 1])
-        & (p[i + 2] == q[i + 2])
-        & (p[i + 3] == q[i + 3])
-        & (p[i + 4] == q[i + 4])
-        & (p[i + 5] == q[i + 5])
-        & (p[i + 6] == q[i + 6])
-        & (p[i + 7] == q[i + 7])
+    p[i..i + 8]
+        .iter()
+        .zip(&q[i..i + 8])
+        .fold(true, |all, (a, b)| all & (*a == *b))
 }
 
 // Whether a quick test finds that of two resolved paths neither is a prefix of the other: a byte that both have is not the same. From the end of the
 // shorter path it goes towards the start, where paths are likely to be alike, eight bytes at a time; the first up to seven are not looked at.
+#[tactic(auto, using(crate::proofs::ApartLaws::eights))]
 pub fn is_apart(p: &[u8], q: &[u8]) -> bool
     ensures { TellsApart p.now q.now result }
 {
     let mut n = p.len().min(q.len());
+    // by index: ranges that go down by eight compile to more per turn
     while n >= 8 {
         n -= 8;
         if !same_eight(p, q, n) {

@@ -32,28 +32,14 @@ fn plain_pair(a: u8, b: u8) -> bool
     (a != b'/') | ((b != b'/') & (b != b'.'))
 }
 
-// The same of eight bytes from an offset on, each with the next. With no branch between them they are tested at once.
+// The same of eight bytes from an offset on, each with the next. `&` and no `all`: with no branch between them they are tested at once.
 fn plain_eight(p: &[u8], at: usize) -> bool
     requires { at + 8 < length p.now }
     ensures { result ≡ plain_eight p.now at }
 {
-    let a = p[at];
-    let b = p[at + 1];
-    let c = p[at + 2];
-    let d = p[at + 3];
-    let e = p[at + 4];
-    let f = p[at + 5];
-    let g = p[at + 6];
-    let h = p[at + 7];
-    let i = p[at + 8];
-    ((a != b'/') | ((b != b'/') & (b != b'.')))
-        & ((b != b'/') | ((c != b'/') & (c != b'.')))
-        & ((c != b'/') | ((d != b'/') & (d != b'.')))
-        & ((d != b'/') | ((e != b'/') & (e != b'.')))
-        & ((e != b'/') | ((f != b'/') & (f != b'.')))
-        & ((f != b'/') | ((g != b'/') & (g != b'.')))
-        & ((g != b'/') | ((h != b'/') & (h != b'.')))
-        & ((h != b'/') | ((i != b'/') & (i != b'.')))
+    p[at..at + 9]
+        .windows(2)
+        .fold(true, |all, w| all & plain_pair(w[0], w[1]))
 }
 
 // The same of the bytes before the last.
@@ -64,6 +50,7 @@ fn plain_bytes(p: &[u8]) -> bool
 }
 
 // Whether a quick test finds p in resolved form: no component behind the first slash is empty or begins with a dot.
+#[tactic(auto, using(crate::proofs::Scanning::plain))]
 fn is_plain(p: &[u8]) -> bool
     requires { (1 < length p.now) × (get_or p.now 0 0 ≡ slash) }
     ensures { result ≡ true → is_resolved p.now ≡ true }
@@ -75,6 +62,7 @@ fn is_plain(p: &[u8]) -> bool
     if last < 8 {
         return plain_bytes(p);
     }
+    // by index: `step_by` compiles to more per turn
     let mut k: usize = 0;
     while last - k > 8 {
         if !plain_eight(p, k) {
@@ -94,6 +82,7 @@ pub fn is_resolved(p: &[u8]) -> bool
 }
 
 // Puts a slash and a name behind the first len bytes of the work area, and says how many bytes there are then.
+#[tactic(auto, using(crate::proofs::Entering::adding))]
 fn add_name(work: &mut [u8], len: usize, c: &[u8]) -> usize
     requires { len + 1 + length c.now ≤ length work.old }
     ensures { Begins work.new result (len + 1 + length c.now) (take len work.old ++ slash ∷ c.now) }
@@ -167,11 +156,11 @@ fn enter_joined(work: &mut [u8], path: &[u8], cwd: &[u8]) -> usize
 fn hand_over(entered: &[u8], space: &mut [u8; MAX_PATH]) -> Result<usize, Refusal>
     ensures { Answers (rooted entered.now) (too_long (rooted entered.now)) space.old result space.new }
 {
-    let path = if entered.is_empty() { b"/" } else { entered };
-    if path.len() > MAX_PATH {
+    let resolved = if entered.is_empty() { b"/" } else { entered };
+    if resolved.len() > MAX_PATH {
         return Err(Refusal::ResolvedTooLong);
     }
-    Ok(append(space, 0, path))
+    Ok(append(space, 0, resolved))
 }
 
 // Resolves a path given in a working directory into the lent space, from its start.

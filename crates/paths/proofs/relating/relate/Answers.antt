@@ -1,30 +1,7 @@
 use native.Mathlib.Omega.{arith}
-use Rattle.paths.proofs.RelatingLaws.{answered, between_start, between-begins, both_end, first_ends, second-ends, Shared, inside-start, inside-last, inside-byte, inside-slash, inside-differs, inside-less, inside-greater}
+use Rattle.paths.proofs.RelatingLaws.{answered, between-begins, Shared, inside-start, inside-last, inside-byte, inside-slash, inside-differs, inside-less, inside-greater}
 use Rattle.paths.proofs.relating.relate.Goals as goal
 use Rattle.paths.proofs.relating.relate.Goals.{then-i-end+else-rank, else-i-end+else-p-i+then-p-i-eq47, then-i-end+then-rank, else-i-end+then-p-i}
-
-pub components-init : goal.components-init
-components-init c = between_start _ _ _ (omega arith)
-
-pub next_component-i-requires :
-    goal.next_component-i-requires
-next_component-i-requires c = c.components.invariant.left
-
-pub next_component-j-requires :
-    goal.next_component-j-requires
-next_component-j-requires c = c.components.invariant.right
-
-pub returns-then-j-q : goal.returns-then-j-q
-returns-then-j-q c =
-    answered (both_end c.components.invariant c.next_component-i.ensures c.next_component-j.ensures c.if-i-p.true c.if-j-q.true) (omega arith)
-
-pub returns-then-i-p : goal.returns-then-i-p
-returns-then-i-p c =
-    answered (first_ends c.components.invariant c.next_component-i.ensures c.next_component-j.ensures c.if-i-p.true c.if-j-q.false) (omega arith)
-
-pub returns-then-j-q-2 : goal.returns-then-j-q-2
-returns-then-j-q-2 c =
-    answered (second-ends c.components.invariant c.next_component-i.ensures c.next_component-j.ensures c.if-i-p.false c.if-j-q-2.true) (omega arith)
 
 pub loop-i-init : goal.loop-i-init
 loop-i-init c =

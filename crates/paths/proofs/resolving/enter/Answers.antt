@@ -1,6 +1,5 @@
 -- `..` goes back to the last slash of the bytes entered so far. Assumes nothing.
 use native.Mathlib.Omega.{arith}
-use mathlib.Core.Path.{sym}
 use Rattle.paths.proofs.Entering.{entered-up, begins_within}
 use Rattle.paths.proofs.resolving.enter.Goals as goal
 

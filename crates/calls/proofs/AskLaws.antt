@@ -10,7 +10,6 @@ use lib.Seq.{length-take-le}
 use borrow.Author.Tests.{lt-ltb, le-ltb}
 use Rattle.refusals.specs.declared.Refusal.{Refusal}
 use Rattle.refusals.specs.declared.Refusal.TheVariants.{NoTable, NoSpace}
-use Rattle.refusals.specs.declared.Refusal.TheVariants as refusal
 use Rattle.refusals.specs.Refusals.{first_cause, Result, and_then, unless}
 use Rattle.refusals.proofs.CauseLaws.{unless-ok, unless-refused}
 use Rattle.paths.specs.declared.Descriptor.{Descriptor}

@@ -31,9 +31,8 @@ use Rattle.items.specs.Items.{Item, item_list}
 use Rattle.child.specs.Arguments.{Arguments, arg_of, known_arg, items_of, are_in_order, arguments_of}
 use Rattle.child.specs.Making.{Made, then, item_step, all_items, take_over, take_over_acts, first_child, completed, create_child}
 use Rattle.child.specs.Calls.{Creation, creation, child_call, refusal_in, times_asked, child_acts, child_left, child_after, Creates, CreatesChild}
-use Rattle.child.specs.Steps.{child_made, child_sent, Makes, after_items, Completes, MakesSent, SendsItems, Passed, Tests}
+use Rattle.child.specs.Steps.{child_made, child_sent, Makes, after_items, Completes, MakesSent, SendsItems, Passed}
 use Rattle.items.proofs.ItemListLaws.{Known, all_known}
-use Rattle.items.specs.Steps.{are_responses}
 use Rattle.child.proofs.ArgumentLaws.{in_order}
 use Rattle.child.proofs.MakingLaws.{then-stops, then-goes, granting-asked, granting-acts}
 use Rattle.child.proofs.ItemLaws.{item-parent, item-child}

@@ -1,6 +1,5 @@
 -- What the functions inside the crate ensure, step by step; `Calls.antt` has what they come to.
 use Rattle.std.specs.Prelude.{ℕ, ◌+◌, ◌≤◌, ◌≡◌, List, Bool, true, false, length, Ok, Err}
-use Rattle.refusals.specs.declared.Refusal.{Refusal}
 use Rattle.refusals.specs.Refusals.{Result}
 use Rattle.table.specs.Entries.{Entry}
 use Rattle.table.specs.Tables.{Table}

@@ -40,10 +40,7 @@ impl ChildSent {
         ensures { result ≡ child_sent outcome asked words }
     {
         ChildSent {
-            made: ChildMade {
-                outcome,
-                asked,
-            },
+            made: ChildMade { outcome, asked },
             words,
         }
     }

@@ -42,9 +42,11 @@ slice_bounds-perform-end c = sym (length-take-le _ _ (gives-stands c.in_ok-size.
 
 pub perform-requires : goal.perform-requires
 unfolding act_of fits is_act is_entry query_of is_query
-perform-requires c =
-    (sym c.holds_table.ensures ∙ c.if-not-holds_table.false, (gives-stands c.in_ok-size.ensures refl).fits,
-    link-ready (admitted _ _ _ c.in_ok-admit.ensures))
+perform-requires c = (
+  sym c.holds_table.ensures ∙ c.if-not-holds_table.false,
+  (gives-stands c.in_ok-size.ensures refl).fits,
+  link-ready (admitted _ _ _ c.in_ok-admit.ensures),
+)
 
 pub returns : goal.returns
 unfolding act_of

@@ -25,9 +25,11 @@ returns-then-switches-from c =
 
 pub perform-requires : goal.perform-requires
 unfolding act_of fits is_act
-perform-requires c =
-    (sym c.holds_table.ensures ∙ c.if-not-holds_table.false, le-leb c.args.switches max_switches (omega arith),
-    link-ready (admitted _ _ _ c.in_ok-admit.ensures))
+perform-requires c = (
+  sym c.holds_table.ensures ∙ c.if-not-holds_table.false,
+  le-leb c.args.switches max_switches (omega arith),
+  link-ready (admitted _ _ _ c.in_ok-admit.ensures),
+)
 
 pub returns : goal.returns
 unfolding act_of

@@ -1,7 +1,7 @@
 -- `complete` meets its contract: what is taken over stays, and a refusal leaves a fresh child.
 use mathlib.Core.Path.{sym, ◌∙◌}
 use native.Mathlib.Omega.{arith}
-use Rattle.table.specs.Memory.{table_of, holds}
+use Rattle.table.specs.Memory.{table_of}
 use Rattle.table.proofs.Puts.{long_of}
 use Rattle.table.proofs.CallLaws.{made-fresh}
 use Rattle.child.specs.Making.{take_over}
@@ -17,7 +17,7 @@ pub returns-then-is_err : goal.returns-then-is_err
 returns-then-is_err c =
     let M : MakesChild (after_items c.args.items (take_over (table_of c.args.parent.now) (table_of c.args.child.now))) c.args.child.now c.match-items.child c.match-items.outcome =
     elim c.match-items.branch [
-      in-Ok w ↦ rw (w.child-is, w.outcome-is) (after-through _ _ w.in-Ok.is w.take_over-outcome.ensures)
+      | in-Ok w ↦ rw (w.child-is, w.outcome-is) (after-through _ _ w.in-Ok.is w.take_over-outcome.ensures)
       | in-Err w ↦ rw (w.child-is, w.outcome-is) (after-stopped _ _ w.in-Err.is)
     ] in
     completes-refused M (sym c.is_err.ensures.value ∙ c.if-is_err.true)
@@ -27,7 +27,7 @@ pub returns-else-is_err : goal.returns-else-is_err
 returns-else-is_err c =
     let M : MakesChild (after_items c.args.items (take_over (table_of c.args.parent.now) (table_of c.args.child.now))) c.args.child.now c.match-items.child c.match-items.outcome =
     elim c.match-items.branch [
-      in-Ok w ↦ rw (w.child-is, w.outcome-is) (after-through _ _ w.in-Ok.is w.take_over-outcome.ensures)
+      | in-Ok w ↦ rw (w.child-is, w.outcome-is) (after-through _ _ w.in-Ok.is w.take_over-outcome.ensures)
       | in-Err w ↦ rw (w.child-is, w.outcome-is) (after-stopped _ _ w.in-Err.is)
     ] in
     completes-done M (sym c.is_err.ensures.value ∙ c.if-is_err.false)

@@ -17,9 +17,9 @@ use Rattle.child.proofs.creating.test_call.Goals.{
 pub returns-then-not-holds_table : goal.returns-then-not-holds_table
 returns-then-not-holds_table c = λ n cwd.
     elim c.then-not-holds_table.branch [
-      then-not-holds_table-via-then-not-holds_table w ↦ child-no-table _ _ _ _ _ _ _ _ (sym c.holds_table.ensures ∙ w.if-not-holds_table.true)
+      | then-not-holds_table-via-then-not-holds_table w ↦ child-no-table _ _ _ _ _ _ _ _ (sym c.holds_table.ensures ∙ w.if-not-holds_table.true)
       | then-not-holds_table-via-else-not-holds_table+then-child-lt-TABLE_BYTES w ↦
-      child-small _ _ _ _ _ _ _ _ (sym c.holds_table.ensures ∙ w.if-not-holds_table.false) (omega arith)
+          child-small _ _ _ _ _ _ _ _ (sym c.holds_table.ensures ∙ w.if-not-holds_table.false) (omega arith)
     ]
 
 pub returns-in_err-admit : goal.returns-in_err-admit
@@ -48,7 +48,7 @@ pub returns-else-are_responses : goal.returns-else-are_responses
 returns-else-are_responses c = λ n cwd.
     child-unknown _ _ _ _ _ _ _ _ (sym c.holds_table.ensures ∙ c.if-not-holds_table.false) (omega arith) (admitted _ _ _ c.in_ok-admit.ensures)
     (elim c.else-are_responses.branch [
-      else-are_responses-via-then-are_responses+else-are_in_order w ↦
-      no-order _ _ _ _ (sym c.in_ok-arg.ensures) (all_known _ (sym c.are_responses.ensures ∙ w.if-are_responses.true)).are (sym w.are_in_order.ensures ∙ w.if-are_in_order.false)
+      | else-are_responses-via-then-are_responses+else-are_in_order w ↦
+          no-order _ _ _ _ (sym c.in_ok-arg.ensures) (all_known _ (sym c.are_responses.ensures ∙ w.if-are_responses.true)).are (sym w.are_in_order.ensures ∙ w.if-are_in_order.false)
       | else-are_responses-via-else-are_responses w ↦ no-responses _ _ _ _ (sym c.in_ok-arg.ensures) (sym c.are_responses.ensures ∙ w.if-are_responses.false)
     ])

@@ -1,4 +1,4 @@
-use mathlib.Core.Path.{refl, ◌∙◌}
+use mathlib.Core.Path.{refl}
 use native.Mathlib.Omega.{arith}
 use Rattle.items.proofs.ItemListLaws.{closing-next}
 use Rattle.child.proofs.GrantingLaws.{sent-start, sent-room, sent-once, sent-stops, sent-next, sent-done}

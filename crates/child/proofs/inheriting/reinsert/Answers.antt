@@ -1,7 +1,6 @@
 -- `reinsert` meets its contract: a G is passed over, and any other entry is inserted.
 use mathlib.Core.Path.{sym, ◌∙◌}
 use Rattle.table.specs.Held.{entry_of}
-use Rattle.table.specs.Tables.{is_entry}
 use Rattle.table.specs.Acts.{is_act}
 use Rattle.table.specs.Carrying.{act_of, fits}
 use Rattle.table.proofs.RevokeLaws.{same-grant}

@@ -1,4 +1,4 @@
-use mathlib.Core.Path.{refl, sym, ap, ◌∙◌}
+use mathlib.Core.Path.{refl, ap, ◌∙◌}
 use Rattle.std.proofs.lemmas.Result.{err_from_is_err_and}
 use Rattle.table.specs.Tables.{Table}
 use Rattle.child.proofs.TakeOverLaws.{inserting-start, inserting-done, inserting-stops, inserting-next}
@@ -7,7 +7,7 @@ use Rattle.child.proofs.inheriting.reinsert_all.Goals as goal
 pub loop-entry-init : goal.loop-entry-init
 loop-entry-init c =
     inserting-start _ _
-    (c.into_iter-entry-iterator.ensures.into_iter_gives ∙ c.entries-entry-items.ensures ∙ ap (λ (t : Table). t.entries) c.of.ensures) c.requires.1
+    (c.into_iter-entry-iterator.ensures.into_iter_gives ∙ c.entries-entry-items.ensures.list ∙ ap (λ (t : Table). t.entries) c.of.ensures) c.requires.1
 
 pub reinsert-requires : goal.reinsert-requires
 reinsert-requires c = c.loop-entry.invariant.child

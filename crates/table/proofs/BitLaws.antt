@@ -15,18 +15,6 @@ pub bit_kept : (n bit : ℕ) → has n bit ≡ true → n ≡ set_bit n bit
 unfolding set_bit
 bit_kept n bit e = rw e
 
-pub bit_added : (n bit : ℕ) → has n bit ≡ false → n + bit ≡ set_bit n bit
-unfolding set_bit
-bit_added n bit e = rw e
-
-pub bit-cleared : (n bit : ℕ) → has n bit ≡ true → n - bit ≡ clear_bit n bit
-unfolding clear_bit
-bit-cleared n bit e = rw e
-
-pub bit-clear : (n bit : ℕ) → has n bit ≡ false → n ≡ clear_bit n bit
-unfolding clear_bit
-bit-clear n bit e = rw e
-
 -- a number that has the bit is no less than it
 pub bit-within : (n bit : ℕ) → has n bit ≡ true → bit ≤ n
 unfolding has

@@ -75,9 +75,9 @@ written m at e n h k =
     (over-above m at (kind_number e.kind ∷ word (length e.path)) e.path (omega arith))
 
 -- a table's head: the count, and then two bytes
-pub head-written : (m m' : List ℕ) (n a b : ℕ) → table_head ≤ length m → length m' ≡ length m → m' ≡ overwrite m 0 (word n)
+pub head_written : (m m' : List ℕ) (n a b : ℕ) → table_head ≤ length m → length m' ≡ length m → m' ≡ overwrite m 0 (word n)
     → set (set m' switches_at a) marks_at b ≡ overwrite m 0 (head_bytes n a b)
-head-written m m' n a b h l q =
+head_written m m' n a b h l q =
     over-sets (a ∷ b ∷ []) m' 2 (omega arith) ∙ rw q (over-above m 0 (word n) (a ∷ b ∷ []) (omega arith))
 
 -- s is written from `at` on, and then the first two bytes of what lies before it

@@ -167,8 +167,14 @@ held m e =
       each = v.each;
     }
 
-pub marks-of : (m : List ℕ) → holds m ≡ true → get_or m marks_at 0 ≤ 7
-marks-of m e = rw (held m e).marks (marks-small (entries_at m (word_at m 0) table_head))
+pub few_of : (m : List ℕ) → holds m ≡ true → word_at m 0 ≤ max_entries
+few_of m e = (held m e).few
+
+pub switches_low : (m : List ℕ) → holds m ≡ true → get_or m switches_at 0 ≤ max_switches
+switches_low m e = (held m e).switches
+
+pub marks_low : (m : List ℕ) → holds m ≡ true → get_or m marks_at 0 ≤ 7
+marks_low m e = rw (held m e).marks (marks-small (entries_at m (word_at m 0) table_head))
 
 -- ---- a walk over the entries
 

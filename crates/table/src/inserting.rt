@@ -11,6 +11,7 @@ use crate::{ENTRY_HEAD, Kind, MARKS_AT, Place, placing, reading, writing};
 use refusals::Refusal;
 
 // Sets the mark of a kind: an insert that finds its entry in the list.
+#[tactic(auto, using(crate::proofs::Puts::long_of, crate::proofs::Within::marks_low))]
 fn set_mark(mem: &mut [u8], kind: Kind)
     requires { holds mem.old ≡ true }
     ensures { (p : List ℕ) → mem.new ≡ put (inserted_by Found (table_of mem.old) (record { kind = kind; path = p })) mem.old }
@@ -19,6 +20,7 @@ fn set_mark(mem: &mut [u8], kind: Kind)
 }
 
 // Puts an entry at a place of the list, and sets its mark.
+#[tactic(auto, using(crate::proofs::Puts::long_of, crate::proofs::Within::marks_low))]
 fn insert_at(mem: &mut [u8], place: usize, kind: Kind, path: &[u8])
     requires mem_value { holds mem.old ≡ true }
     requires place_bound { (place ≤ word_at mem.old 0) × (word_at mem.old 0 < max_entries) }

@@ -20,6 +20,7 @@ impl TryFrom<u32> for Kind {
 
     ghost try_from_gives = { λ n r. r ≡ known_kind (kind_of n) };
 
+    #[tactic(auto, unfolding(crate::specs::Entries::kind_of, crate::specs::Entries::known_kind))]
     fn try_from(n: u32) -> Result<Self, Refusal> {
         match n {
             0 => Ok(Kind::G),

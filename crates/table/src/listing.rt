@@ -7,6 +7,7 @@ ghost use Rattle.table.specs.Listing.{used_bytes, listed};
 use crate::{ENTRY_HEAD, LENGTH_OFFSET, Listed, reading};
 
 // How many entries the list has.
+#[tactic(auto, using(crate::proofs::Puts::long_of, crate::proofs::Within::few_of, crate::proofs::Puts::count_of))]
 pub fn count(mem: &[u8]) -> usize
     requires { holds mem.now ≡ true }
     ensures { (result ≡ length (table_of mem.now).entries) × (result ≤ max_entries) }
@@ -15,6 +16,7 @@ pub fn count(mem: &[u8]) -> usize
 }
 
 // How many bytes the table takes, from the memory's start.
+#[tactic(auto, using(crate::proofs::Puts::long_of))]
 pub fn used(mem: &[u8]) -> usize
     requires { holds mem.now ≡ true }
     ensures { (result ≡ used_bytes (table_of mem.now)) × (result ≤ table_bytes) }
@@ -23,6 +25,7 @@ pub fn used(mem: &[u8]) -> usize
 }
 
 // The entry at a place of the list, and where its path stands, if there is one.
+#[tactic(auto, using(crate::proofs::Puts::long_of))]
 pub fn entry_at(mem: &[u8], place: usize) -> Option<Listed>
     requires { holds mem.now ≡ true }
     ensures { result ≡ listed mem.now place }

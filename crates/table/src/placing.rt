@@ -30,6 +30,7 @@ fn compare_at(mem: &[u8], at: usize, kind: Kind, path: &[u8]) -> Ordering
 }
 
 // The search for a place, by halves of the list. The entry half-way is found from the one at the base.
+#[tactic(auto, using(crate::proofs::Puts::long_of))]
 fn search(mem: &[u8], kind: Kind, path: &[u8]) -> Probe
     requires { holds mem.now ≡ true }
     ensures { SearchEnds mem.now (record { kind = kind; path = path.now }) result.base result.at }
@@ -50,6 +51,7 @@ fn search(mem: &[u8], kind: Kind, path: &[u8]) -> Probe
 }
 
 // Where a new entry goes.
+#[tactic(auto, using(crate::proofs::Puts::long_of))]
 pub(crate) fn place(mem: &[u8], kind: Kind, path: &[u8]) -> Place
     requires { holds mem.now ≡ true }
     ensures { result ≡ place (table_of mem.now).entries (record { kind = kind; path = path.now }) }
@@ -66,6 +68,7 @@ pub(crate) fn place(mem: &[u8], kind: Kind, path: &[u8]) -> Place
 }
 
 // Whether there is room for one entry more, with a path of `len` bytes.
+#[tactic(auto, using(crate::proofs::Puts::long_of))]
 pub(crate) fn has_room(mem: &[u8], len: usize) -> bool
     requires { holds mem.now ≡ true }
     ensures { (e : Entry) → length e.path ≡ len → result ≡ has_room (table_of mem.now) e }
@@ -79,6 +82,7 @@ pub(crate) fn has_room(mem: &[u8], len: usize) -> bool
 }
 
 // Whether an insert would add an entry and finds no room for it.
+#[tactic(auto, unfolding(crate::specs::Acts::overflows, crate::specs::Acts::would_add, crate::specs::Acts::adds))]
 pub fn overflows(mem: &[u8], kind: Kind, path: &[u8]) -> bool
     requires { holds mem.now ≡ true }
     ensures { result ≡ overflows (table_of mem.now) (record { kind = kind; path = path.now }) }

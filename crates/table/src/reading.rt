@@ -17,15 +17,11 @@ pub fn word_at(mem: &[u8], at: usize) -> usize
 }
 
 // The kind of a kind byte.
+#[tactic(auto, unfolding(crate::specs::Entries::kind_of, crate::specs::Entries::known_kind, crate::specs::Memory::kind_in))]
 pub fn kind_from(byte: u8) -> Kind
     ensures { result ≡ kind_from byte }
 {
-    match byte {
-        0 => Kind::G,
-        1 => Kind::D,
-        2 => Kind::P,
-        _ => Kind::I,
-    }
+    Kind::try_from(u32::from(byte)).unwrap_or(Kind::I)
 }
 
 // The path of the entry at an offset.
@@ -63,6 +59,7 @@ pub(crate) fn entry_offset(mem: &[u8], place: usize) -> usize
 // ---- switches and marks
 
 // The switches.
+#[tactic(auto, using(crate::proofs::Puts::long_of, crate::proofs::Within::switches_low), unfolding(crate::specs::Memory::table_of))]
 pub fn switches(mem: &[u8]) -> u8
     requires { holds mem.now ≡ true }
     ensures { (result ≡ (table_of mem.now).switches) × (result ≤ max_switches) }
@@ -71,6 +68,7 @@ pub fn switches(mem: &[u8]) -> u8
 }
 
 // The marks.
+#[tactic(auto, using(crate::proofs::Puts::long_of, crate::proofs::Within::marks_low), unfolding(crate::specs::Memory::table_of))]
 pub fn marks(mem: &[u8]) -> u8
     requires { holds mem.now ≡ true }
     ensures { (result ≡ (table_of mem.now).marks) × (result ≤ 7) }
@@ -97,6 +95,7 @@ pub fn has_mark(mem: &[u8], bit: u8) -> bool
 // ---- entries, by a cursor
 
 // Where the list begins.
+#[tactic(auto, using(crate::proofs::Puts::long_of), unfolding(crate::specs::Reading::first_entry))]
 pub fn first(mem: &[u8]) -> Cursor
     requires { holds mem.now ≡ true }
     ensures { result ≡ first_entry mem.now }
@@ -108,6 +107,7 @@ pub fn first(mem: &[u8]) -> Cursor
 }
 
 // Whether an entry is there; else the list is at its end.
+#[tactic(auto, unfolding(crate::specs::Reading::is_at_entry))]
 pub fn is_at_entry(cursor: Cursor) -> bool
     ensures { result ≡ is_at_entry cursor }
 {

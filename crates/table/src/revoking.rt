@@ -10,6 +10,7 @@ use crate::{ENTRY_HEAD, GRANTED, Kind, LENGTH_OFFSET, SWITCHES_AT, TABLE_HEAD, r
 use paths::relating::is_prefix;
 
 // Drops the grants whose paths are selected, and closes the gaps: each entry that stays is moved down at most once.
+#[tactic(auto, using(crate::proofs::Puts::long_of))]
 fn drop_grants<F: Fn(&[u8]) -> bool>(mem: &mut [u8], selects: F)
     requires mem_value { holds mem.old ≡ true }
     requires callable { F.IsAlwaysCallable selects }
@@ -41,6 +42,7 @@ fn write_switches(mem: &mut [u8], switches: u8)
 }
 
 // Drops every grant whose path is a prefix of q.
+#[tactic(auto, unfolding(crate::specs::Memory::do_act, crate::specs::Acts::apply_act))]
 pub(crate) fn revoke_path(mem: &mut [u8], q: &[u8])
     requires { holds mem.old ≡ true }
     ensures { mem.new ≡ do_act mem.old (revoke q.now) }
@@ -49,6 +51,7 @@ pub(crate) fn revoke_path(mem: &mut [u8], q: &[u8])
 }
 
 // Drops every grant, and clears the switch of the grants.
+#[tactic(auto, using(crate::proofs::Puts::long_of))]
 pub(crate) fn revoke_grants(mem: &mut [u8])
     requires { holds mem.old ≡ true }
     ensures { mem.new ≡ do_act mem.old revoke_all }
@@ -59,6 +62,7 @@ pub(crate) fn revoke_grants(mem: &mut [u8])
 }
 
 // Sets the switches.
+#[tactic(auto, using(crate::proofs::Puts::long_of))]
 pub(crate) fn set_switches_byte(mem: &mut [u8], switches: u8)
     requires { (holds mem.old ≡ true) × (switches ≤ max_switches) }
     ensures { mem.new ≡ do_act mem.old (set_switches switches) }

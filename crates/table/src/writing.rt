@@ -31,6 +31,7 @@ pub(crate) fn set_count(mem: &mut [u8], n: usize)
 }
 
 // Writes what stands before the entries: the count, the switches and the marks.
+#[tactic(auto, using(crate::proofs::Overwrites::head_written))]
 pub fn write_head(mem: &mut [u8], n: usize, switches: u8, marks: u8)
     requires { (n < 65536) × (table_head ≤ length mem.old) }
     ensures { mem.new ≡ overwrite mem.old 0 (head_bytes n switches marks) }
@@ -51,6 +52,7 @@ pub(crate) fn write_entry(mem: &mut [u8], at: usize, kind: Kind, path: &[u8])
 }
 
 // Writes an entry from an offset on, and says where it ends.
+#[tactic(auto, unfolding(crate::specs::Memory::encode_entry))]
 pub fn append_entry(mem: &mut [u8], at: usize, kind: Kind, path: &[u8]) -> usize
     requires { (length path.now < 65536) × (at + entry_head + length path.now ≤ length mem.old) }
     ensures { Appends (encode_entry (record { kind = kind; path = path.now })) mem.old at mem.new result }

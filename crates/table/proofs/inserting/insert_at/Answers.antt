@@ -5,7 +5,6 @@ use native.Mathlib.Omega.{arith}
 use Rattle.std.proofs.Common.{rules}
 use lib.ListN.{length}
 use Rattle.table.specs.Memory.{table_head, word_at, offset_at}
-use Rattle.table.proofs.Within.{held, marks-of}
 use Rattle.table.proofs.Inserts.{Room, room, insert-steps}
 use Rattle.table.proofs.inserting.insert_at.Goals as goal
 use Rattle.table.proofs.inserting.insert_at.Goals.{After-entry_offset-end}
@@ -16,15 +15,6 @@ end-is c = c.entry_offset-end.ensures ∙ ap (λ (k : ℕ). offset_at c.args.mem
 
 has-room : (c : After-entry_offset-end) → Room c.args.mem.now c.args.place (length c.args.path.now)
 has-room c = let q = c.requires in room _ q.mem_value c.args.place (length c.args.path.now) q.place_bound.0 q.place_bound.1 q.path_bound
-
-pub word_at-count-requires : goal.word_at-count-requires
-word_at-count-requires c = omega (arith, (held _ c.requires.mem_value).long)
-
-pub marked-marks-requires : goal.marked-marks-requires
-marked-marks-requires c = marks-of _ c.requires.mem_value
-
-pub bounds-mem-3 : goal.bounds-mem-3
-bounds-mem-3 c = omega (arith, (held _ c.requires.mem_value).long)
 
 pub overflow_add-start : goal.overflow_add-start
 overflow_add-start c = let a = (goal.at.overflow_add-start c).After-entry_offset-end in omega (arith, end-is a, has-room a)
@@ -40,12 +30,6 @@ move_bytes-requires c = let a = (goal.at.move_bytes-requires c).After-entry_offs
 
 pub write_entry-requires : goal.write_entry-requires
 write_entry-requires c = let a = (goal.at.write_entry-requires c).After-entry_offset-end in omega (arith, end-is a, has-room a)
-
-pub set_count-requires : goal.set_count-requires
-set_count-requires c = omega (arith, (held _ c.requires.mem_value).long)
-
-pub bounds-mem-3-2 : goal.bounds-mem-3-2
-bounds-mem-3-2 c = omega (arith, (held _ c.requires.mem_value).long)
 
 pub returns : goal.returns
 returns c =

@@ -4,16 +4,12 @@ use native.Mathlib.Omega.{arith}
 use lib.ListN.{length}
 use Rattle.table.specs.Listing.{listed_at}
 use Rattle.table.specs.Memory.{next_at}
-use Rattle.table.proofs.Puts.{long_of}
 use Rattle.table.proofs.ListingLaws.{place_inside, listed_here, listed-none}
 use Rattle.table.proofs.listing.entry_at.Goals as goal
 use Rattle.table.proofs.listing.entry_at.Goals.{After-entry_offset-at}
 
 inside : (c : After-entry_offset-at) → next_at c.args.mem.now c.entry_offset-at.result ≤ length c.args.mem.now
 inside c = place_inside _ c.requires _ c.word_at.ensures.0 c.entry_offset-at.ensures (omega arith)
-
-pub word_at-requires : goal.word_at-requires
-word_at-requires c = omega (arith, long_of _ c.requires)
 
 pub returns-then-place-word_at : goal.returns-then-place-word_at
 returns-then-place-word_at c = listed-none _ _ c.word_at.ensures.0 (omega arith)

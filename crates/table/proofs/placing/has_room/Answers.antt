@@ -4,7 +4,6 @@ use Prim.Native.Nat.{◌+◌, ◌*◌, ◌≤◌}
 use mathlib.Core.Path.{◌≡◌, sym}
 use Rattle.table.specs.Tables.{max_path_bytes, path_bytes}
 use Rattle.table.specs.Memory.{table_head, entry_head, table_of}
-use Rattle.table.proofs.Within.{held}
 use Rattle.table.proofs.ProbeLaws.{ended, path-limit, room-full, room_by}
 use Rattle.table.proofs.placing.has_room.Goals as goal
 
@@ -15,9 +14,6 @@ end_is c = ended _ c.requires c.word_at-count.ensures.0 c.entry_offset.ensures
 
 limit : (c : goal.After-entry_offset) → path_bytes (table_of c.args.mem.now).entries ≤ max_path_bytes
 limit c = path-limit _ c.requires
-
-pub word_at-count-requires : goal.word_at-count-requires
-word_at-count-requires c = omega (arith, (held _ c.requires).long)
 
 pub returns-then-count-ge-MAX_ENTRIES : goal.returns-then-count-ge-MAX_ENTRIES
 returns-then-count-ge-MAX_ENTRIES c = λ e q. sym (room-full _ e c.word_at-count.ensures.0 (omega arith))

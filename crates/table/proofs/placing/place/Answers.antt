@@ -6,9 +6,6 @@ use Rattle.table.specs.Placing.{place_by}
 use Rattle.table.proofs.ProbeLaws.{place_none, base-below, base-inside, placed-by}
 use Rattle.table.proofs.placing.place.Goals as goal
 
-pub word_at-requires : goal.word_at-requires
-word_at-requires c = omega (arith, (held _ c.requires).long)
-
 pub returns-then-word_at-eq0 : goal.returns-then-word_at-eq0
 returns-then-word_at-eq0 c = sym (place_none _ _ (sym c.word_at.ensures.0 ∙ c.if-word_at-eq0.true))
 

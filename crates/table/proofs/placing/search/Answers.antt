@@ -1,11 +1,7 @@
 use mathlib.Core.Path.{sym, ◌∙◌}
 use native.Mathlib.Omega.{arith}
-use Rattle.table.proofs.Within.{held}
 use Rattle.table.proofs.ProbeLaws.{probing-start, probing-done, probing-stays, probing-moves, half-within, half-inside}
 use Rattle.table.proofs.placing.search.Goals as goal
-
-pub word_at-size-requires : goal.word_at-size-requires
-word_at-size-requires c = omega (arith, (held _ c.requires).long)
 
 pub loop-size-init : goal.loop-size-init
 loop-size-init c = probing-start _ _ c.word_at-size.ensures.0

@@ -11,7 +11,6 @@ use Rattle.table.specs.Acts.{dropped_by}
 use Rattle.table.specs.Changing.{Selects}
 use Rattle.table.specs.Entries.{is_granted}
 use Rattle.table.specs.Memory.{entry_head, len_at, next_at, entry_at}
-use Rattle.table.proofs.Within.{held}
 use Rattle.table.proofs.RevokeLaws.{same-grant, stays, goes, kept-start, next-inside, kept-skip, kept_move, kept-end}
 use Rattle.table.proofs.revoking.drop_grants.Given.{Over}
 use Rattle.table.proofs.revoking.drop_grants.Goals as goal
@@ -32,9 +31,6 @@ goes-by g c selected S =
           ∙ sym w.goes-is
       | else-eq w ↦ stays selected _ (kind ∙ w.if-eq.false) ∙ sym (w.goes-is ∙ w.if-eq.false)
     ]
-
-pub word_at-end-requires : goal.word_at-end-requires
-word_at-end-requires g c = omega (arith, (held _ c.requires.mem_value).long)
 
 pub loop-init : goal.loop-init
 loop-init g c = rw (sub-zero c.word_at-end.result, c.word_at-end.ensures.0) (kept-start _ _ c.requires.mem_value)
@@ -77,10 +73,6 @@ loop-preserved g c =
       | else-not-goes w ↦
           rw (e, w.mem-is, w.kept-is, w.to-is) (kept-skip (omega arith) c.loop.invariant _ size (λ selected S. by selected S ∙ w.if-not-goes.false))
     ]
-
-pub set_count-requires : goal.set_count-requires
-set_count-requires g c =
-    omega (arith, (held _ c.requires.mem_value).long, c.loop.invariant.few, c.loop.invariant.same)
 
 pub returns : goal.returns
 returns g c =

@@ -1,18 +1,8 @@
 -- `revoke_grants` meets its contract: every grant is dropped, and then the switch is cleared.
-use native.Mathlib.Omega.{arith}
 use Rattle.std.proofs.Common.{rules}
 use Rattle.table.specs.Acts.{every_path}
-use Rattle.table.proofs.Within.{held}
 use Rattle.table.proofs.RevokeLaws.{revoke-all-law}
 use Rattle.table.proofs.revoking.revoke_grants.Goals as goal
-
-pub bounds-mem-2 : goal.bounds-mem-2
-bounds-mem-2 c =
-    omega (arith, (held _ c.requires).long, c.drop_grants.auto.mem)
-
-pub write_switches-requires : goal.write_switches-requires
-write_switches-requires c =
-    omega (arith, (held _ c.requires).long, c.drop_grants.auto.mem)
 
 pub returns : goal.returns
 returns c =

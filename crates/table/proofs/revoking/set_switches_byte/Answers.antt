@@ -1,12 +1,7 @@
 -- `set_switches_byte` meets its contract: the one byte that is written is the switches.
-use native.Mathlib.Omega.{arith}
 use Rattle.std.proofs.Common.{rules}
-use Rattle.table.proofs.Within.{held}
 use Rattle.table.proofs.RevokeLaws.{switch-law}
 use Rattle.table.proofs.revoking.set_switches_byte.Goals as goal
-
-pub write_switches-requires : goal.write_switches-requires
-write_switches-requires c = omega (arith, (held _ c.requires.0).long)
 
 pub returns : goal.returns
 returns c =

@@ -9,7 +9,7 @@ use lib.ListN.{length, take}
 use lib.Seq.{length-take-le}
 use borrow.Author.Tests.{lt-ltb, le-ltb}
 use Rattle.refusals.specs.declared.Refusal.{Refusal}
-use Rattle.refusals.specs.declared.Refusal.TheVariants.{NoTable, NoSpace}
+use Rattle.refusals.specs.declared.Refusal.TheVariants.{NoSpace}
 use Rattle.refusals.specs.Refusals.{Result, first_cause, and_then, unless}
 use Rattle.paths.specs.declared.Descriptor.{Descriptor}
 use Rattle.paths.specs.Copying.{begun, Appends}
@@ -18,9 +18,8 @@ use Rattle.paths.proofs.GivingLaws.{Stands, gives-refused, gives-stands}
 use Rattle.paths.specs.Resolving.{resolve}
 use Rattle.paths.specs.declared.Descriptor.TheVariants.{NoPath, Path}
 use Rattle.table.specs.Tables.{Table, has, prompt}
-use Rattle.table.specs.Memory.{table_of, holds}
+use Rattle.table.specs.Calls.{table_in}
 use Rattle.table.proofs.Overwrites.{from_start}
-use Rattle.table.proofs.CallLaws.{no_table, a-table}
 use Rattle.walk.specs.declared.PermissionState.{PermissionState}
 use Rattle.walk.specs.declared.PermissionState.TheVariants as state
 use Rattle.walk.specs.declared.AllowPartial.TheVariants.{TreatAsPartialGranted}
@@ -85,23 +84,23 @@ text-room {n = n} {s = s} h S = record { room = h; short = let e = length-take-l
 -- ---- what the code answers
 
 module _ {call : Call} {m s : List ℕ} {d : Descriptor} {p cwd : List ℕ} where
-  pub question-no-table : holds m ≡ false → Questions call m s d p cwd s (Err NoTable)
+  pub question-no-table : {cause : Refusal} {a : Result (Option ℕ)} → table_in m ≡ Err cause → a ≡ Err cause → Questions call m s d p cwd s a
   unfolding question_call and_then question_in question_text begun
-  question-no-table h = record { answer = rw (no_table m h); space = rw (no_table m h) }
+  question-no-table h f = record { answer = rw h f; space = rw h }
 
-  module _ (h : holds m ≡ true) where
+  module _ {t : Table} (h : table_in m ≡ Ok t) where
     pub question-no-space : length s < text_bytes → Questions call m s d p cwd s (Err NoSpace)
     unfolding question_call and_then text_space first_cause unless question_in question_text begun
-    question-no-space short = record { answer = rw (a-table m h, lt-ltb _ _ short); space = rw (a-table m h, lt-ltb _ _ short) }
+    question-no-space short = record { answer = rw (h, lt-ltb _ _ short); space = rw (h, lt-ltb _ _ short) }
 
     module _ (room : text_bytes ≤ length s) {z z' : List ℕ} {r : Result ℕ} (G : Gives d p cwd z r z') where
       pub question-refused : {cause : Refusal} {a : Result (Option ℕ)} → r ≡ Err cause → a ≡ Err cause → Questions call m s d p cwd s a
       unfolding question_call and_then text_space first_cause unless question_in question_text begun
-      question-refused e f = record { answer = rw (a-table m h, le-ltb _ _ room, gives-refused G e) f; space = rw (a-table m h, le-ltb _ _ room, gives-refused G e) }
+      question-refused e f = record { answer = rw (h, le-ltb _ _ room, gives-refused G e) f; space = rw (h, le-ltb _ _ room, gives-refused G e) }
 
       module _ {n : ℕ} (e : r ≡ Ok n) where
         -- the answer and the space, by whether it would ask and the text that stands at the space's start
-        question-by : {told : Bool} {s' : List ℕ} {a : Option ℕ} → told ≡ would_ask call (table_of m) (query_of d (take n z'))
+        question-by : {told : Bool} {s' : List ℕ} {a : Option ℕ} → told ≡ would_ask call t (query_of d (take n z'))
             → a ≡ question_by told (text_of d p (take n z')) → s' ≡ begun (cond told (text_of d p (take n z')) []) s
             → Questions call m s d p cwd s' (Ok a)
         unfolding question_call and_then text_space first_cause unless question_in question_text
@@ -109,15 +108,15 @@ module _ {call : Call} {m s : List ℕ} {d : Descriptor} {p cwd : List ℕ} wher
             let S = gives-stands G e in
             let text = text_same S in
             record {
-              answer = rw (a-table m h, le-ltb _ _ room, S.query, ← text, ← asked, f);
-              space = rw (a-table m h, le-ltb _ _ room, S.query, ← text, ← asked) g;
+              answer = rw (h, le-ltb _ _ room, S.query, ← text, ← asked, f);
+              space = rw (h, le-ltb _ _ room, S.query, ← text, ← asked) g;
             }
 
-        pub question-asked : {s' : List ℕ} {k : ℕ} → true ≡ would_ask call (table_of m) (query_of d (take n z'))
+        pub question-asked : {s' : List ℕ} {k : ℕ} → true ≡ would_ask call t (query_of d (take n z'))
             → Appends (text_of d p (take n z')) s 0 s' k → Questions call m s d p cwd s' (Ok (Some k))
         unfolding question_by
         question-asked asked W = question-by asked (ap (λ (k : ℕ). Some k) (from_start W).1) (from_start W).0
 
-        pub question-none : false ≡ would_ask call (table_of m) (query_of d (take n z')) → Questions call m s d p cwd s (Ok None)
+        pub question-none : false ≡ would_ask call t (query_of d (take n z')) → Questions call m s d p cwd s (Ok None)
         unfolding question_by begun
         question-none asked = question-by asked refl refl

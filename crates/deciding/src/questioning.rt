@@ -7,7 +7,7 @@ use crate::{Call, PromptResponse, TEXT_BYTES};
 use paths::giving::resolve_given;
 use paths::{Descriptor, MAX_PATH};
 use refusals::Refusal;
-use table::holding::holds_table;
+use table::held::Table;
 
 // The text that a check or request of a path as given with the working directory, or of reading as a whole, would ask, and how long it is; none, where
 // nothing would be asked.
@@ -21,9 +21,7 @@ pub fn question(
 ) -> Result<Option<usize>, Refusal>
     ensures { Questions call mem.now space.old d «path».now cwd.now space.new result }
 {
-    if !holds_table(mem) {
-        return Err(Refusal::NoTable);
-    }
+    let table = Table::try_from(mem)?;
     if space.len() < TEXT_BYTES {
         return Err(Refusal::NoSpace);
     }
@@ -31,7 +29,7 @@ pub fn question(
     let n = resolve_given(d, path, cwd, &mut resolved)?;
     let q = &resolved[..n];
     // any other answer would do: it makes no difference to whether the operator is asked
-    if decide(mem, call, d, q, PromptResponse::Deny).asked {
+    if decide(&table, call, d, q, PromptResponse::Deny).asked {
         Ok(Some(write_text(space, d, path, q)))
     } else {
         Ok(None)

@@ -16,10 +16,6 @@ use Rattle.table.specs.declared.Kind.{Kind}
 use Rattle.table.specs.declared.Kind.TheVariants.{G, D, P, I}
 use Rattle.table.specs.Entries.{Entry}
 use Rattle.table.specs.Tables.{Table, any, is_entry}
-use Rattle.table.specs.declared.Cursor.{Cursor}
-use Rattle.table.specs.Memory.{table_of}
-use Rattle.table.specs.Reading.{entries_from, is_at_entry, entry_in, first_entry, next_entry, Reads}
-use Rattle.table.proofs.ReadingLaws.{first-from, from-entry, from_end, entry_read}
 use Rattle.walk.specs.declared.AllowPartial.{AllowPartial}
 use Rattle.walk.specs.declared.AllowPartial.TheVariants.{TreatAsDenied, TreatAsPartialGranted, TreatAsGranted}
 use Rattle.walk.specs.declared.Met.{Met}
@@ -34,9 +30,6 @@ use Rattle.walk.proofs.WalkLaws.{neither, allowed-granted}
 pub meets-compared : {p q : List ℕ} {r : Comparison} {a b : Bool} → r ≡ comparison p q → a ≡ says_prefix r.relation → b ≡ says_prefix (turned r.relation)
     → Meets p q (record { above = a; below = b })
 meets-compared e f g = let s = compared-said e refl in record { above = f ∙ sym s.prefix; below = g ∙ sym s.extension }
-
-pub meets_at : {p p' q : List ℕ} {met : Met} → Meets p q met → p ≡ p' → Meets p' q met
-meets_at M e = record { above = rw (← e) M.above; below = rw (← e) M.below }
 
 match-kind : (k : Kind) (p q : List ℕ) → matches_by k (is_prefix p q) (is_prefix q p) ≡ matches_kind k p q
 unfolding matches_kind
@@ -130,49 +123,49 @@ sees-passed q read e {met} {s} M h S =
 -- ---- the walk on its way
 
 -- the path of an entry is in resolved form
-pub path-resolved : {m : List ℕ} {c : Cursor} → Reads m c → {p : List ℕ} → p ≡ (entry_in m c).path → is_resolved p ≡ true
+pub path-resolved : (e : Entry) → is_entry e ≡ true → is_resolved e.path ≡ true
 unfolding is_entry is_path
-path-resolved {m} {c} R a = rw a (and_right (leb (length (entry_in m c).path) max_path) _ (entry_read R))
+path-resolved e ok = and_right (leb (length e.path) max_path) _ ok
 
--- the list is the entries read and those from the cursor on, and `seen` was seen of the former
-pub record Walking (m q : List ℕ) (c : Cursor) (seen : Seen) : Type 0 where
+-- the list is the entries read and those that are left, and `seen` was seen of the former
+pub record Walking (t : Table) (q : List ℕ) (left : List Entry) (seen : Seen) : Type 0 where
   pub read : List Entry
-  pub whole : (table_of m).entries ≡ read ++ entries_from m c
+  pub whole : t.entries ≡ read ++ left
   pub sees : Sees q read seen
 
-pub walking_start : (m q : List ℕ) (seen : Seen) → seen.first ≡ None → seen.partial ≡ false → Walking m q (first_entry m) seen
+pub walking_start : (t : Table) (q : List ℕ) {left : List Entry} (seen : Seen) → left ≡ t.entries → seen.first ≡ None → seen.partial ≡ false → Walking t q left seen
 unfolding kind_of_match first_match any
-walking_start m q seen f p = record { read = []; whole = sym (first-from m); sees = record { first = f; partial = p } }
+walking_start t q seen e f p = record { read = []; whole = sym e; sees = record { first = f; partial = p } }
 
--- a turn: the entry at the cursor is read too
-pub walking_on : {m q : List ℕ} {c : Cursor} {seen seen' : Seen} → is_at_entry c ≡ true → (W : Walking m q c seen) → Sees q (W.read ++ entry_in m c ∷ []) seen'
-    → Walking m q (next_entry m c) seen'
-walking_on {m} {q} {c} h W S = record {
-  read = W.read ++ entry_in m c ∷ [];
-  whole = W.whole ∙ ap (λ (es : List Entry). W.read ++ es) (from-entry m c h) ∙ sym (append_assoc W.read (entry_in m c ∷ []) (entries_from m (next_entry m c)));
-  sees = S;
-}
+module _ {t : Table} {q : List ℕ} {left : List Entry} {seen : Seen} where
+  -- a turn: the first of the entries that are left is read too
+  pub walking_on : {e : Entry} {rest : List Entry} {seen' : Seen} → left ≡ e ∷ rest → (W : Walking t q left seen) → Sees q (W.read ++ e ∷ []) seen'
+      → Walking t q rest seen'
+  walking_on {e} {rest} next W S = record {
+    read = W.read ++ e ∷ [];
+    whole = W.whole ∙ ap (λ (es : List Entry). W.read ++ es) next ∙ sym (append_assoc W.read (e ∷ []) rest);
+    sees = S;
+  }
 
--- at the list's end
-pub walking-end : {m q : List ℕ} {c : Cursor} {seen : Seen} (mode : AllowPartial) → is_at_entry c ≡ false → Walking m q c seen → Walks (table_of m).entries mode q seen
-walking-end {m} {q} {c} mode h W = record {
-  read = W.read;
-  rest = entries_from m c;
-  whole = W.whole;
-  sees = W.sees;
-  enough = λ e. from_end m c h;
-}
+  -- at the list's end
+  pub walking-end : (mode : AllowPartial) → left ≡ [] → Walking t q left seen → Walks t.entries mode q seen
+  walking-end mode none W = record {
+    read = W.read;
+    rest = left;
+    whole = W.whole;
+    sees = W.sees;
+    enough = λ e. none;
+  }
 
--- and before it, where the state is settled
-pub walking-settled : {m q : List ℕ} {c : Cursor} {seen : Seen} (mode : AllowPartial) → is_settled seen.first mode seen.partial ≡ true → Walking m q c seen
-    → Walks (table_of m).entries mode q seen
-walking-settled {m} {q} {c} mode e W = record {
-  read = W.read;
-  rest = entries_from m c;
-  whole = W.whole;
-  sees = W.sees;
-  enough = λ f. absurd (true≢false (sym e ∙ f));
-}
+  -- and before it, where the state is settled
+  pub walking-settled : (mode : AllowPartial) → is_settled seen.first mode seen.partial ≡ true → Walking t q left seen → Walks t.entries mode q seen
+  walking-settled mode e W = record {
+    read = W.read;
+    rest = left;
+    whole = W.whole;
+    sees = W.sees;
+    enough = λ f. absurd (true≢false (sym e ∙ f));
+  }
 
 -- ---- leaving early
 

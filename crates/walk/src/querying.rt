@@ -7,7 +7,7 @@ use crate::{AllowPartial, PermissionState};
 use paths::giving::resolve_given;
 use paths::{Descriptor, MAX_PATH};
 use refusals::Refusal;
-use table::holding::holds_table;
+use table::held::Table;
 
 // What a path, as given with the working directory, or no path has for an answer in a mode.
 pub fn query(
@@ -19,11 +19,9 @@ pub fn query(
 ) -> Result<PermissionState, Refusal>
     ensures { result ≡ query_call mem.now mode d «path».now cwd.now }
 {
-    if !holds_table(mem) {
-        return Err(Refusal::NoTable);
-    }
+    let table = Table::try_from(mem)?;
     let known = AllowPartial::try_from(mode)?;
     let mut space = [0u8; MAX_PATH];
     let n = resolve_given(d, path, cwd, &mut space)?;
-    Ok(query_desc(mem, known, d, &space[..n]))
+    Ok(query_desc(&table, known, d, &space[..n]))
 }

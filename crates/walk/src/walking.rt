@@ -1,8 +1,7 @@
-// What a query answers, from a table in lent memory. Scope, "The walk". The names are the Rust's where a function is.
+// What a query answers, from a table. Scope, "The walk". The names are the Rust's where a function is.
 ghost use Rattle.std.specs.Prelude.{◌≡◌, true, List, ℕ};
 ghost use Rattle.paths.specs.Resolving.{is_resolved};
 ghost use Rattle.paths.specs.Giving.{query_of};
-ghost use Rattle.table.specs.Memory.{table_of, holds};
 ghost use Rattle.walk.specs.Walk.{
   state_number,
   mode_of,
@@ -34,10 +33,10 @@ use paths::relating::{is_apart, relate};
 use paths::resolving::is_resolved;
 use paths::{Descriptor, Relation};
 use refusals::Refusal;
-use table::reading::{has_mark, has_switch};
+use table::held::Table;
 use table::{
     FLAG_DENIED, FLAG_IGNORED, GRANTED, HAS_FLAG_DENIED, HAS_FLAG_IGNORED, HAS_PROMPT_DENIED, Kind,
-    PROMPT_DENIED, reading,
+    PROMPT_DENIED,
 };
 
 // ---- numbers
@@ -162,40 +161,36 @@ fn is_settled(seen: Seen, mode: AllowPartial) -> bool
 }
 
 // The entries in list order, each read once, until the state is settled.
-fn walk(mem: &[u8], mode: AllowPartial, q: &[u8]) -> Seen
-    requires { holds mem.now ≡ true }
-    ensures { Walks (table_of mem.now).entries mode q.now result }
+fn walk(table: &Table<'_>, mode: AllowPartial, q: &[u8]) -> Seen
+    ensures { Walks table.now.entries mode q.now result }
 {
     let resolved = is_resolved(q);
     let mut seen = Seen {
         first: None,
         partial: false,
     };
-    let mut cursor = reading::first(mem);
-    while reading::is_at_entry(cursor) {
-        let met = meet(reading::path(mem, cursor), q, resolved);
+    for entry in table.entries() {
+        let met = meet(entry.path, q, resolved);
         if met.above | met.below {
-            seen = with_entry(seen, reading::kind(mem, cursor), met);
+            seen = with_entry(seen, entry.kind, met);
             if is_settled(seen, mode) {
                 return seen;
             }
         }
-        cursor = reading::advance(mem, cursor);
     }
     seen
 }
 
 // What was seen of the entries or, with no path, of the marks.
-fn see(mem: &[u8], mode: AllowPartial, d: Descriptor, q: &[u8]) -> Seen
-    requires { holds mem.now ≡ true }
-    ensures { Decides (table_of mem.now) mode (query_of d q.now) result }
+fn see(table: &Table<'_>, mode: AllowPartial, d: Descriptor, q: &[u8]) -> Seen
+    ensures { Decides table.now mode (query_of d q.now) result }
 {
     match d {
         Descriptor::NoPath => Seen {
             first: None,
-            partial: has_mark(mem, HAS_FLAG_DENIED) || has_mark(mem, HAS_FLAG_IGNORED),
+            partial: table.has_mark(HAS_FLAG_DENIED) || table.has_mark(HAS_FLAG_IGNORED),
         },
-        Descriptor::Path => walk(mem, mode, q),
+        Descriptor::Path => walk(table, mode, q),
     }
 }
 
@@ -227,14 +222,13 @@ fn decided_by(kind: Kind, state: PermissionState) -> PermissionState
 
 // Whether what no entry decides is denied. With no path, a denial at the prompt counts too, of all or of any path.
 #[tactic(auto, unfolding(crate::specs::Walk::is_denied, paths::specs::Giving::query_of))]
-fn is_denied(mem: &[u8], d: Descriptor) -> bool
-    requires { holds mem.now ≡ true }
-    ensures { (q : List ℕ) → result ≡ is_denied (table_of mem.now) (query_of d q) }
+fn is_denied(table: &Table<'_>, d: Descriptor) -> bool
+    ensures { (q : List ℕ) → result ≡ is_denied table.now (query_of d q) }
 {
-    has_switch(mem, FLAG_DENIED)
+    table.has_switch(FLAG_DENIED)
         || match d {
             Descriptor::NoPath => {
-                has_switch(mem, PROMPT_DENIED) || has_mark(mem, HAS_PROMPT_DENIED)
+                table.has_switch(PROMPT_DENIED) || table.has_mark(HAS_PROMPT_DENIED)
             }
             Descriptor::Path => false,
         }
@@ -242,17 +236,21 @@ fn is_denied(mem: &[u8], d: Descriptor) -> bool
 
 // The state where no entry decides.
 #[tactic(auto, unfolding(crate::specs::Walk::without_match, crate::specs::Walk::is_denied_mode))]
-fn without_match(mem: &[u8], mode: AllowPartial, d: Descriptor, partial: bool) -> PermissionState
-    requires { holds mem.now ≡ true }
-    ensures { (q : List ℕ) → result ≡ without_match (table_of mem.now) mode (query_of d q) partial }
+fn without_match(
+    table: &Table<'_>,
+    mode: AllowPartial,
+    d: Descriptor,
+    partial: bool,
+) -> PermissionState
+    ensures { (q : List ℕ) → result ≡ without_match table.now mode (query_of d q) partial }
 {
-    if has_switch(mem, FLAG_IGNORED) {
+    if table.has_switch(FLAG_IGNORED) {
         PermissionState::Ignored
     } else if partial && mode == AllowPartial::TreatAsDenied {
         PermissionState::DeniedPartial
-    } else if is_denied(mem, d) {
+    } else if is_denied(table, d) {
         PermissionState::Denied
-    } else if has_switch(mem, GRANTED) {
+    } else if table.has_switch(GRANTED) {
         query_allowed_desc(partial, mode)
     } else {
         PermissionState::Prompt
@@ -261,33 +259,30 @@ fn without_match(mem: &[u8], mode: AllowPartial, d: Descriptor, partial: bool) -
 
 // The state that follows from what was seen, the switches and the marks.
 #[tactic(auto, unfolding(crate::specs::Seeing::kind_of_match, crate::specs::Walk::by_match))]
-fn state_from(mem: &[u8], mode: AllowPartial, d: Descriptor, seen: Seen) -> PermissionState
-    requires { holds mem.now ≡ true }
-    ensures { (q : List ℕ) → Follows (table_of mem.now) mode (query_of d q) seen result }
+fn state_from(table: &Table<'_>, mode: AllowPartial, d: Descriptor, seen: Seen) -> PermissionState
+    ensures { (q : List ℕ) → Follows table.now mode (query_of d q) seen result }
 {
     match seen.first {
-        None => without_match(mem, mode, d, seen.partial),
+        None => without_match(table, mode, d, seen.partial),
         Some(kind) => decided_by(kind, query_allowed_desc(seen.partial, mode)),
     }
 }
 
 // What a query answers; with no path the walk is skipped.
-pub fn query_desc(mem: &[u8], mode: AllowPartial, d: Descriptor, q: &[u8]) -> PermissionState
-    requires { holds mem.now ≡ true }
-    ensures { result ≡ query_desc (table_of mem.now) mode (query_of d q.now) }
+pub fn query_desc(table: &Table<'_>, mode: AllowPartial, d: Descriptor, q: &[u8]) -> PermissionState
+    ensures { result ≡ query_desc table.now mode (query_of d q.now) }
 {
-    state_from(mem, mode, d, see(mem, mode, d, q))
+    state_from(table, mode, d, see(table, mode, d, q))
 }
 
 // Whether every query is granted: switch 1 alone of 1, 2, 4, 8 is set, and no mark is.
 #[tactic(auto, unfolding(crate::specs::Walk::is_allow_all))]
-pub fn is_allow_all(mem: &[u8]) -> bool
-    requires { holds mem.now ≡ true }
-    ensures { result ≡ is_allow_all (table_of mem.now) }
+pub fn is_allow_all(table: &Table<'_>) -> bool
+    ensures { result ≡ is_allow_all table.now }
 {
-    has_switch(mem, GRANTED)
-        && !has_switch(mem, FLAG_DENIED)
-        && !has_switch(mem, FLAG_IGNORED)
-        && !has_switch(mem, PROMPT_DENIED)
-        && reading::marks(mem) == 0
+    table.has_switch(GRANTED)
+        && !table.has_switch(FLAG_DENIED)
+        && !table.has_switch(FLAG_IGNORED)
+        && !table.has_switch(PROMPT_DENIED)
+        && table.marks() == 0
 }

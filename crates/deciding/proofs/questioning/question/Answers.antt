@@ -8,15 +8,15 @@ use Rattle.deciding.specs.Questions.{would_ask}
 use Rattle.deciding.proofs.QuestionLaws.{text-room, question-no-table, question-no-space, question-refused, question-asked, question-none}
 use Rattle.deciding.proofs.questioning.question.Goals as goal
 
-pub returns-then-not-holds_table : goal.returns-then-not-holds_table
-returns-then-not-holds_table c = question-no-table (sym c.holds_table.ensures ∙ c.if-not-holds_table.true)
+pub returns-in_err-table : goal.returns-in_err-table
+returns-in_err-table c = question-no-table (sym c.try_from.ensures ∙ c.in_err-table.was) (search rules)
 
 pub returns-then-space-lt-TEXT_BYTES : goal.returns-then-space-lt-TEXT_BYTES
-returns-then-space-lt-TEXT_BYTES c = question-no-space (sym c.holds_table.ensures ∙ c.if-not-holds_table.false) (omega arith)
+returns-then-space-lt-TEXT_BYTES c = question-no-space (sym c.try_from.ensures ∙ c.in_ok-table.was) (omega arith)
 
 pub returns-in_err-n : goal.returns-in_err-n
 returns-in_err-n c =
-    question-refused (sym c.holds_table.ensures ∙ c.if-not-holds_table.false) (omega arith) c.resolve_given.ensures c.in_err-n.was (search rules)
+    question-refused (sym c.try_from.ensures ∙ c.in_ok-table.was) (omega arith) c.resolve_given.ensures c.in_err-n.was (search rules)
 
 pub slice_bounds-resolved-end : goal.slice_bounds-resolved-end
 slice_bounds-resolved-end c = (gives-stands c.resolve_given.ensures c.in_ok-n.was).room
@@ -30,11 +30,11 @@ write_text-requires c = text-room (omega arith) (gives-stands c.resolve_given.en
 pub returns-then-decide : goal.returns-then-decide
 unfolding would_ask
 returns-then-decide c =
-    question-asked (sym c.holds_table.ensures ∙ c.if-not-holds_table.false) (omega arith) c.resolve_given.ensures c.in_ok-n.was
+    question-asked (sym c.try_from.ensures ∙ c.in_ok-table.was) (omega arith) c.resolve_given.ensures c.in_ok-n.was
     (sym c.if-decide.true ∙ c.decide.ensures.asked) c.write_text.ensures
 
 pub returns-else-decide : goal.returns-else-decide
 unfolding would_ask
 returns-else-decide c =
-    question-none (sym c.holds_table.ensures ∙ c.if-not-holds_table.false) (omega arith) c.resolve_given.ensures c.in_ok-n.was
+    question-none (sym c.try_from.ensures ∙ c.in_ok-table.was) (omega arith) c.resolve_given.ensures c.in_ok-n.was
     (sym c.if-decide.false ∙ c.decide.ensures.asked)

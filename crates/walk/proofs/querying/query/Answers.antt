@@ -1,20 +1,19 @@
 -- `query` meets its contract: the first cause is found, or the walk answers.
-use mathlib.Core.Path.{sym, ◌∙◌}
+use mathlib.Core.Path.{sym}
 use Rattle.std.proofs.Common.{rules}
 use lib.Seq.{length-take-le}
 use Rattle.refusals.specs.Refusals.{and_then}
 use Rattle.paths.proofs.GivingLaws.{gives-refused, gives-stands}
-use Rattle.table.proofs.CallLaws.{no_table, a-table}
 use Rattle.walk.specs.Calls.{query_call}
 use Rattle.walk.proofs.querying.query.Goals as goal
 
-pub returns-then-not-holds_table : goal.returns-then-not-holds_table
+pub returns-in_err-table : goal.returns-in_err-table
 unfolding query_call and_then
-returns-then-not-holds_table c = rw (no_table _ (sym c.holds_table.ensures ∙ c.if-not-holds_table.true))
+returns-in_err-table c = rw (sym c.in_err-table.ensures) (search rules)
 
 pub returns-in_err-known : goal.returns-in_err-known
 unfolding query_call and_then
-returns-in_err-known c = rw (a-table _ (sym c.holds_table.ensures ∙ c.if-not-holds_table.false), sym c.in_err-known.ensures) (search rules)
+returns-in_err-known c = rw (sym c.in_ok-table.ensures, sym c.in_err-known.ensures) (search rules)
 
 pub slice_bounds-space-end : goal.slice_bounds-space-end
 slice_bounds-space-end c = (gives-stands c.resolve_given.ensures c.in_ok-n.was).room
@@ -26,7 +25,7 @@ pub returns-in_err-n : goal.returns-in_err-n
 unfolding query_call and_then
 returns-in_err-n c =
     rw (
-      a-table _ (sym c.holds_table.ensures ∙ c.if-not-holds_table.false),
+      sym c.in_ok-table.ensures,
       sym c.in_ok-known.ensures,
       gives-refused c.resolve_given.ensures c.in_err-n.was,
     )
@@ -36,7 +35,7 @@ pub returns : goal.returns
 unfolding query_call and_then
 returns c =
     rw (
-      a-table _ (sym c.holds_table.ensures ∙ c.if-not-holds_table.false),
+      sym c.in_ok-table.ensures,
       sym c.in_ok-known.ensures,
       (gives-stands c.resolve_given.ensures c.in_ok-n.was).query,
       c.query_desc.ensures,

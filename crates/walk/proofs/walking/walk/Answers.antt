@@ -1,45 +1,29 @@
 use mathlib.Core.Path.{refl, sym, ◌∙◌}
-use Rattle.table.proofs.ReadingLaws.{first-in, fewer-left, next-in}
-use Rattle.walk.proofs.SeeingLaws.{meets_at, path-resolved, sees-passed, walking_start, walking_on, walking-end, walking-settled}
+use Rattle.table.specs.Held.{entry_of}
+use Rattle.walk.proofs.SeeingLaws.{path-resolved, sees-passed, walking_start, walking_on, walking-end, walking-settled}
 use Rattle.walk.proofs.walking.walk.Goals as goal
-use Rattle.walk.proofs.walking.walk.Goals.{then-met+else-is_settled, else-met}
 
-pub loop-mode-init : goal.loop-mode-init
-loop-mode-init c = rw c.first-cursor.ensures (first-in _ c.requires, walking_start _ _ _ refl refl)
+pub loop-entry-init : goal.loop-entry-init
+loop-entry-init c = walking_start _ _ _ (c.into_iter-entry-iterator.ensures.into_iter_gives ∙ c.entries-entry-items.ensures.list) refl refl
 
 pub meet-met-requires : goal.meet-met-requires
-meet-met-requires c = (
-  path-resolved
-      (record { rest = c.loop-mode.invariant.0; more = sym c.is_at_entry.ensures ∙ c.loop-mode-test.true })
-      c.path.ensures,
-  c.is_resolved-resolved.ensures,
-)
+meet-met-requires c = (path-resolved (entry_of c.in-Some.entry) c.in-Some.entry.sound, c.is_resolved-resolved.ensures)
 
 pub returns-then-is_settled : goal.returns-then-is_settled
 returns-then-is_settled c =
-    let inv = c.loop-mode.invariant in
-    let more = sym c.is_at_entry.ensures ∙ c.loop-mode-test.true in
-    let M = meets_at c.meet-met.ensures c.path.ensures in
+    let W = c.loop-entry.invariant in
     walking-settled _ (sym c.is_settled.ensures ∙ c.if-is_settled.true)
-    (walking_on more inv.1 (c.with_entry-seen.ensures.more _ _ _ c.kind.ensures M inv.1.sees))
+    (walking_on c.in-Some.ensures.steps W (c.with_entry-seen.ensures.more _ _ _ refl c.meet-met.ensures W.sees))
 
-pub loop-mode-smaller : goal.loop-mode-smaller
-loop-mode-smaller c =
-    rw c.advance-cursor.ensures (fewer-left _ _ (sym c.is_at_entry.ensures ∙ c.loop-mode-test.true))
+pub loop-entry-preserved-else-is_settled : goal.loop-entry-preserved-else-is_settled
+loop-entry-preserved-else-is_settled c =
+    let W = c.loop-entry.invariant in
+    walking_on c.in-Some.ensures.steps W (c.with_entry-seen.ensures.more _ _ _ refl c.meet-met.ensures W.sees)
 
-pub loop-mode-preserved : goal.loop-mode-preserved
-loop-mode-preserved c =
-    let inv = c.loop-mode.invariant in
-    let more = sym c.is_at_entry.ensures ∙ c.loop-mode-test.true in
-    let M = meets_at c.meet-met.ensures c.path.ensures in
-    rw c.advance-cursor.ensures (
-      next-in (record { rest = inv.0; more = more }),
-      walking_on more inv.1
-          (elim c.if-met.branch [
-            | then-met+else-is_settled w ↦ rw w.seen-is (w.with_entry-seen.ensures.more _ _ _ w.kind.ensures M inv.1.sees)
-            | else-met w ↦ rw w.seen-is (sees-passed _ _ _ M w.if-met.false inv.1.sees)
-          ]),
-    )
+pub loop-entry-preserved : goal.loop-entry-preserved
+loop-entry-preserved c =
+    let W = c.loop-entry.invariant in
+    walking_on c.in-Some.ensures.steps W (sees-passed _ _ _ c.meet-met.ensures c.if-met.false W.sees)
 
 pub returns : goal.returns
-returns c = walking-end _ (sym c.is_at_entry.ensures ∙ c.loop-mode-test.false) c.loop-mode.invariant.1
+returns c = walking-end _ c.in-None.ensures.steps.0 c.loop-entry.invariant

@@ -1,12 +1,7 @@
--- `walk` meets its contract. The loop's invariant: of the entries read, those before the cursor, `seen` has the first match and whether a partial
--- denial is among them.
-use lib.ListN.{length}
-use Rattle.table.specs.Reading.{entries_from, InList}
+-- `walk` meets its contract. The loop's invariant: of the entries read, those before the ones that are left, `seen` has the first match and whether a
+-- partial denial is among them.
 use Rattle.walk.proofs.SeeingLaws.{Walking}
 use Rattle.walk.proofs.walking.walk.Given as goal
 
-abbrev pub invariant-loop-mode : goal.invariant-loop-mode
-invariant-loop-mode l = InList l.mem l.cursor × Walking l.mem l.q l.cursor l.seen
-
-abbrev pub decreases-loop-mode : goal.decreases-loop-mode
-decreases-loop-mode l = length (entries_from l.mem l.cursor)
+abbrev pub invariant-loop-entry : goal.invariant-loop-entry
+invariant-loop-entry l = Walking l.table l.q l.entry-iterator l.seen

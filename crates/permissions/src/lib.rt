@@ -29,11 +29,10 @@ use calls::changing;
 use deciding::Call;
 use link::Link;
 use paths::Descriptor;
-use refusals::Refusal;
 use results::calling::{asked_plainly, asks, created, revoked_plainly};
 use results::numbers::{answer_number, outcome_number, refused, tell_listed};
-use table::holding::holds_table;
-use table::{acting, listing, reading};
+use table::held::Table;
+use table::{acting, listing};
 use walk::querying::query;
 
 pub mod arriving;
@@ -302,11 +301,7 @@ pub extern "C" fn permissions_child(
 pub extern "C" fn permissions_used(mem: &[u8]) -> i32
     ensures { ExportedUsed mem.now result }
 {
-    if holds_table(mem) {
-        listing::used(mem) as i32
-    } else {
-        refused(Refusal::NoTable)
-    }
+    Table::try_from(mem).map_or_else(refused, |table| table.used() as i32)
 }
 
 // How many entries a table has, its switches and its marks.
@@ -319,16 +314,20 @@ pub extern "C" fn permissions_head(
 ) -> i32
     ensures { ExportedHead mem.now count.new switches.new marks.new result }
 {
-    if !holds_table(mem) {
-        *count = 0;
-        *switches = 0;
-        *marks = 0;
-        return refused(Refusal::NoTable);
+    match Table::try_from(mem) {
+        Ok(table) => {
+            *count = table.count() as u32;
+            *switches = u32::from(table.switches());
+            *marks = u32::from(table.marks());
+            0
+        }
+        Err(cause) => {
+            *count = 0;
+            *switches = 0;
+            *marks = 0;
+            refused(cause)
+        }
     }
-    *count = listing::count(mem) as u32;
-    *switches = u32::from(reading::switches(mem));
-    *marks = u32::from(reading::marks(mem));
-    0
 }
 
 // The entry at a place of the list: its kind, where its path stands in the memory, and how many bytes the path has.
@@ -342,9 +341,11 @@ pub extern "C" fn permissions_entry(
 ) -> i32
     ensures { ExportedEntry mem.now place kind.new at.new size.new result }
 {
-    if !holds_table(mem) {
-        tell_listed(None, kind, at, size);
-        return refused(Refusal::NoTable);
+    match Table::try_from(mem) {
+        Ok(_) => tell_listed(listing::entry_at(mem, place as usize), kind, at, size),
+        Err(cause) => {
+            tell_listed(None, kind, at, size);
+            refused(cause)
+        }
     }
-    tell_listed(listing::entry_at(mem, place as usize), kind, at, size)
 }

@@ -6,7 +6,7 @@ ghost use Rattle.calls.specs.Calls.{about, Asks, Revokes};
 ghost use Rattle.child.specs.Calls.{CreatesChild};
 ghost use Rattle.results.specs.Exports.{ExportedAsk, ExportedQuestion, ExportedRevoke, ExportedChild};
 
-use crate::numbers::{answer_number, outcome_number, question_number, question_size};
+use crate::numbers::{outcome_number, question_number, question_size, tell_asked, tell_revoked};
 use calls::asking::ask;
 use calls::revoking::revoke;
 use child::creating::create_child_permissions;
@@ -33,13 +33,10 @@ pub fn asked(
 ) -> i32
     ensures { ExportedAsk (Asks call link (lent mem.old number.old words.old) space.old (about d «path».now cwd.now) response (lent mem.new number.new words.new) space.new) told.new size.new count.new result }
 {
-    let asked = ask(
+    let answer = ask(
         mem, link, number, words, call, d, path, cwd, response, space,
     );
-    *told = u32::from(asked.is_ok_and(|made| made.asked));
-    *size = asked.map_or(0, |made| made.text);
-    *count = asked.map_or(0, |made| made.words);
-    answer_number(asked.map(|made| made.state))
+    tell_asked(answer, told, size, count)
 }
 
 // The same plainly: it looks at no number and no words.
@@ -103,9 +100,8 @@ pub fn revoked(
 ) -> i32
     ensures { ExportedRevoke (Revokes link (lent mem.old number.old words.old) (about d «path».now cwd.now) (lent mem.new number.new words.new)) count.new result }
 {
-    let revoked = revoke(mem, link, number, words, d, path, cwd);
-    *count = revoked.map_or(0, |made| made.words);
-    answer_number(revoked.map(|made| made.state))
+    let answer = revoke(mem, link, number, words, d, path, cwd);
+    tell_revoked(answer, count)
 }
 
 // The same plainly.

@@ -11,9 +11,11 @@ ghost use Rattle.results.specs.Numbers.{
   compared_number,
   compared_common,
 };
+ghost use Rattle.calls.specs.Calls.{answered, told as was_told, text_size, words_in, revoked_answer, revoked_words};
 ghost use Rattle.unit.specs.Calls.{answer_in, asked_in};
 ghost use Rattle.results.specs.Exports.{TellsListed};
 
+use calls::{Asked, Revoked};
 use paths::Comparison;
 use refusals::Refusal;
 use standby::Arrival;
@@ -71,13 +73,41 @@ pub fn compared_common(compared: Result<Comparison, Refusal>) -> usize
     compared.map_or(0, |found| found.common)
 }
 
-// Writes whether the operator was asked about a permission without a path, and says its state.
-pub fn tell_decided(decided: Result<Decided, Refusal>, told: &mut u32) -> i32
-    ensures number { result ≡ answer_number (answer_in decided) }
-    ensures asked { told.new ≡ asked_number (asked_in decided) }
+// Writes whether the operator was asked, how many bytes the text has and how many words hold the record, none where the call is refused, and says the state.
+pub fn tell_asked(
+    answer: Result<Asked, Refusal>,
+    told: &mut u32,
+    size: &mut usize,
+    count: &mut usize,
+) -> i32
+    ensures number { result ≡ answer_number (answered answer) }
+    ensures asked { told.new ≡ asked_number (was_told answer) }
+    ensures text { size.new ≡ text_size answer }
+    ensures words { count.new ≡ words_in answer }
 {
-    *told = u32::from(decided.is_ok_and(|made| made.asked));
-    answer_number(decided.map(|made| made.state))
+    *told = u32::from(answer.is_ok_and(|asked| asked.asked));
+    *size = answer.map_or(0, |asked| asked.text);
+    *count = answer.map_or(0, |asked| asked.words);
+    answer_number(answer.map(|asked| asked.state))
+}
+
+// Writes how many words hold the record, none where the call is refused, and says the state.
+pub fn tell_revoked(answer: Result<Revoked, Refusal>, count: &mut usize) -> i32
+    ensures number { result ≡ answer_number (revoked_answer answer) }
+    ensures words { count.new ≡ revoked_words answer }
+{
+    *count = answer.map_or(0, |revoked| revoked.words);
+    answer_number(answer.map(|revoked| revoked.state))
+}
+
+// Writes whether the operator was asked about a permission without a path, and says its state.
+#[tactic(auto, unfolding(unit::specs::Calls::answer_in, unit::specs::Calls::asked_in))]
+pub fn tell_decided(answer: Result<Decided, Refusal>, told: &mut u32) -> i32
+    ensures number { result ≡ answer_number (answer_in answer) }
+    ensures asked { told.new ≡ asked_number (asked_in answer) }
+{
+    *told = u32::from(answer.is_ok_and(|decided| decided.asked));
+    answer_number(answer.map(|decided| decided.state))
 }
 
 // Writes what stands at a place of a list, and says whether an entry is there.

@@ -47,8 +47,8 @@ pub fn check(state: &mut u32, prompt: bool, response: u32) -> Result<Decided, Re
 pub fn revoke(state: &mut u32) -> Result<PermissionState, Refusal>
     ensures { RevokesUnit state.old state.new result }
 {
-    let found = PermissionState::try_from(*state)?;
-    let left = decisions::revoked(found);
+    let before = PermissionState::try_from(*state)?;
+    let left = decisions::revoked(before);
     *state = u32::from(u8::from(left));
     Ok(left)
 }

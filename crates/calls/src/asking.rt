@@ -18,6 +18,7 @@ use link::performing::perform;
 use paths::giving::resolve_given;
 use paths::{Descriptor, MAX_PATH};
 use refusals::Refusal;
+use table::held::Table;
 use table::holding::holds_table;
 
 // Decides what is resolved, and carries the act out.
@@ -36,7 +37,7 @@ fn settle_query(
     requires resolved_value { is_query (query_of d resolved.now) ≡ true }
     ensures { SettlesQuery call link (lent mem.old number.old words.old) at (query_of d resolved.now) response (length resolved.now) (lent mem.new number.new words.new) result }
 {
-    let decided = decide(mem, call, d, resolved, response);
+    let decided = decide(&Table::of(mem), call, d, resolved, response);
     let end = perform(mem, link, number, words, at, decided.action, resolved)?;
     Ok(Settled {
         state: decided.state,

@@ -15,6 +15,7 @@ use link::performing::perform;
 use paths::giving::resolve_given;
 use paths::{Descriptor, MAX_PATH};
 use refusals::Refusal;
+use table::held::Table;
 use table::holding::holds_table;
 use walk::AllowPartial;
 use walk::walking::query_desc;
@@ -33,7 +34,7 @@ fn revoke_query(
 {
     let end = perform(mem, link, number, words, 0, revoke_action(d), q)?;
     Ok(Revoked {
-        state: query_desc(mem, AllowPartial::TreatAsPartialGranted, d, q),
+        state: query_desc(&Table::of(mem), AllowPartial::TreatAsPartialGranted, d, q),
         words: end,
     })
 }

@@ -14,8 +14,8 @@ returns-in_err-end c =
     let p = err_from_is_err_and c.from_residual.result c.from_residual.ensures.1 in
     rw (p.1, p.2) (revoke-refused _ (c.revoke_action.ensures _) c.perform.ensures c.in_err-end.was)
 
-pub query_desc-requires : goal.query_desc-requires
-query_desc-requires c = revoke-asks _ (c.revoke_action.ensures _) c.perform.ensures c.requires.0 c.requires.2
+pub of-requires : goal.of-requires
+of-requires c = revoke-asks _ (c.revoke_action.ensures _) c.perform.ensures c.requires.0 c.requires.2
 
 pub returns : goal.returns
-returns c = revoke-state _ (c.revoke_action.ensures _) c.perform.ensures c.requires.0 c.requires.2 c.in_ok-end.was c.query_desc.ensures
+returns c = revoke-state _ (c.revoke_action.ensures _) c.perform.ensures c.requires.0 c.requires.2 c.in_ok-end.was (rw c.of.ensures at c.query_desc.ensures)

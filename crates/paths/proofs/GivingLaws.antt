@@ -22,16 +22,6 @@ use Rattle.paths.proofs.ComponentLaws.{and_both}
 use Rattle.paths.proofs.ResolvingLaws.{resolve-resolved}
 use Rattle.paths.proofs.Answering.{Given, no-cause-short, resolution-resolved, resolution-refused, given-space, given-room}
 
--- ---- the code's answer
-
-pub gives_none : {d : Descriptor} (p cwd space : List ℕ) → d ≡ NoPath → Gives d p cwd space (Ok 0) space
-unfolding given_resolution given_into
-gives_none p cwd space e = rw e (record { answer = refl; bytes = refl })
-
-pub gives-path : {d : Descriptor} {p cwd space after : List ℕ} {r : Result ℕ} → d ≡ Path → Resolves p cwd space r after → Gives d p cwd space r after
-unfolding given_resolution given_into
-gives-path e R = rw e (record { answer = R.answer; bytes = R.bytes })
-
 -- ---- a path that resolving gives
 
 pub resolve-path : (p cwd : List ℕ) → first_cause (path_conditions p cwd) ≡ None → is_path (resolve p cwd) ≡ true

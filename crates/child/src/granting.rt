@@ -20,6 +20,7 @@ use link::Link;
 use paths::{Descriptor, MAX_PATH};
 use refusals::Refusal;
 use table::carrying::carry_out;
+use table::held::Table;
 use walk::PermissionState;
 
 // What the child is granted if the parent's check passes: a path, or with none switch 1.
@@ -31,7 +32,7 @@ fn pass_on(child: &mut [u8], state: PermissionState, d: Descriptor, q: &[u8]) ->
     if state != PermissionState::Granted {
         return Err(Refusal::Escalation);
     }
-    let action = grant_action(child, d);
+    let action = grant_action(&Table::of(child), d);
     carry_out(child, action, q)
 }
 

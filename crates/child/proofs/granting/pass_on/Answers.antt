@@ -13,9 +13,9 @@ returns-then-ne c = passes-not _ _ (grind (arith, common_steps, same-pass c.args
 pub carry_out-requires : goal.carry_out-requires
 unfolding fits
 carry_out-requires c =
-    record { mem_value = c.requires.child_value; q_value = rw (c.grant_action-action.ensures c.args.q.now) (grant-fits _ (valid-of _ c.requires.child_value) _ c.requires.q_value) }
+    record { mem_value = c.requires.child_value; q_value = rw (c.grant_action-action.ensures c.args.q.now, c.of.ensures) (grant-fits _ (valid-of _ c.requires.child_value) _ c.requires.q_value) }
 
 pub returns : goal.returns
 returns c =
     passes_on _ _ (grind (arith, common_steps, same-pass c.args.state))
-    (grants-carried (rw (c.grant_action-action.ensures c.args.q.now) at c.carry_out.ensures))
+    (grants-carried (rw (c.grant_action-action.ensures c.args.q.now, c.of.ensures) at c.carry_out.ensures))

@@ -81,7 +81,8 @@ pub fn is_resolved(p: &[u8]) -> bool
     is_absolute(p) && (p.len() == 1 || is_plain(p) || all_names(&p[1..]))
 }
 
-// Puts a slash and a name behind the first len bytes of the work area, and says how many bytes there are then.
+// Puts a slash and a name behind the first len bytes of the work area, and says how many bytes there are then. The area has its count beside it, since
+// it grows in fixed memory.
 #[tactic(auto, using(crate::proofs::Entering::adding))]
 fn add_name(work: &mut [u8], len: usize, c: &[u8]) -> usize
     requires { len + 1 + length c.now ≤ length work.old }

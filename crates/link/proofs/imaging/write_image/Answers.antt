@@ -1,7 +1,6 @@
 -- `write_image` meets its contract, at each way out.
 use mathlib.Core.Path.{sym, ap, ◌∙◌}
 use native.Mathlib.Omega.{arith}
-use Rattle.table.specs.Tables.{Table}
 use Rattle.images.specs.Images.{image_size}
 use Rattle.table.proofs.CallLaws.{no-table-told, table-told}
 use Rattle.records.proofs.RecordLaws.{run-few}

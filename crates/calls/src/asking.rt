@@ -66,8 +66,17 @@ pub fn settle(
     ensures { Settles call link (lent mem.old number.old words.old) at d «path».now cwd.now response space.old (lent mem.new number.new words.new) space.new result }
 {
     let size = resolve_given(d, path, cwd, space)?;
-    let resolved = &space[..size];
-    settle_query(mem, link, number, words, at, call, d, resolved, response)
+    settle_query(
+        mem,
+        link,
+        number,
+        words,
+        at,
+        call,
+        d,
+        &space[..size],
+        response,
+    )
 }
 
 // The answer of a call that is settled, with its text, if one is due.

@@ -5,8 +5,8 @@ use Rattle.paths.proofs.GivingLaws.{gives-stands}
 use Rattle.calls.proofs.AskLaws.{settles-refused, settles-query}
 use Rattle.calls.proofs.asking.settle.Goals as goal
 
-pub slice_bounds-resolved-end : goal.slice_bounds-resolved-end
-slice_bounds-resolved-end c = (gives-stands c.in_ok-size.ensures refl).short
+pub shared_ref_as_front-settle_query : goal.shared_ref_as_front-settle_query
+shared_ref_as_front-settle_query c = (gives-stands c.in_ok-size.ensures refl).short
 
 pub settle_query-requires : goal.settle_query-requires
 settle_query-requires c = record { mem_value = c.requires; resolved_value = (gives-stands c.in_ok-size.ensures refl).fits }

@@ -15,11 +15,11 @@ use Rattle.refusals.specs.declared.Refusal.TheVariants.{NoTable}
 use Rattle.refusals.specs.Refusals.{when, first_cause, Result, and_then, unless, cause_of}
 use Rattle.paths.specs.declared.Descriptor.{Descriptor}
 use Rattle.paths.specs.Components.{Bytes}
-use Rattle.paths.specs.Copying.{begun}
+use Rattle.paths.specs.Copying.{begun, overwrite}
 use Rattle.paths.proofs.ByteLaws.{bytes-none, bytes-cons}
 use Rattle.table.specs.Tables.{Table, fresh, is_table}
 use Rattle.table.specs.Acts.{Act, apply_act, apply_acts}
-use Rattle.table.specs.Memory.{table_bytes, put, do_act, do_acts}
+use Rattle.table.specs.Memory.{table_bytes, encode, encode_all, put, do_act, do_acts}
 use Rattle.table.specs.Carrying.{outcome_of}
 use Rattle.table.specs.Calls.{table_in}
 use Rattle.table.proofs.CallLaws.{makes-fresh}
@@ -243,7 +243,7 @@ module _ {runs : List Run} {sent : List Message} {lines : List Line} (C : Course
       → Course (record { number = q; acts = [] } ∷ runs) sent (lines ++ beginning q done ∷ [])
   unfolding script
   course-begins q {m} long b known above =
-      let B : BeginsRun m q 0 (put fresh m) 0 done = begins-fresh long known (makes-fresh long refl) in
+      let B : BeginsRun m q 0 (put fresh m) 0 done = unfold put encode encode_all overwrite in begins-fresh long known (makes-fresh long refl) in
       record {
         main = record { memory = put fresh m; number = 0 };
         calls = then_run C.calls m 0 q above B refl;

@@ -120,7 +120,7 @@ told-nothing at (Some r) e = cc
 
 -- ---- entries one after another
 
--- `done` of `count` entries were read, and the next one is
+-- `done` of `count` entries were read: what the next one makes of those that are left
 module _ (count done : ℕ) (ws : List ℕ) where
   next-entries : done < count → read_entries (count - done) ws ≡ then_entries (read_entry ws) (λ rest. read_entries (count - (done + 1)) rest)
   unfolding read_entries

@@ -21,7 +21,7 @@ use Rattle.images.proofs.ImageLaws.{entry_length, size-more, few_words}
 pub one-before : (m : List ℕ) (at a : ℕ) (s : List ℕ) → at + 1 ≤ length m → overwrite (set m at a) (at + 1) s ≡ overwrite m at (a ∷ s)
 one-before m at a s h = rw (over-sets (a ∷ []) m at h) (over-above m at (a ∷ []) s h)
 
--- what an entry of the table says of its path
+-- the path of an entry of a table is within its limit
 pub path-fits : (e : Entry) → is_entry e ≡ true → length e.path ≤ max_path
 unfolding is_entry
 path-fits e ok = path-short e.path ok

@@ -15,7 +15,6 @@ pub mod ProbeLaws
 pub mod RevokeLaws
 pub mod CarryingLaws
 pub mod ActLaws
-pub mod ReadingLaws
 pub mod CallLaws
 pub mod ListingLaws
 pub mod TableCopies

@@ -2,13 +2,14 @@
 ghost use Rattle.std.specs.Prelude.{◌≡◌, true, ◌<◌, ◌≤◌, length};
 ghost use Rattle.table.specs.Tables.{max_entries, max_switches, has, is_entry, is_table};
 ghost use Rattle.table.specs.Acts.{overflows};
-ghost use Rattle.table.specs.Memory.{table_bytes, table_of, holds};
+ghost use Rattle.table.specs.Memory.{table_bytes, table_of, holds, put};
 ghost use Rattle.table.specs.Listing.{used_bytes};
 ghost use Rattle.table.specs.Calls.{table_in};
 
 use crate::holding::holds_table;
 use crate::reading::{entry_offset, entry_path, kind_from, word_at};
 use crate::{ENTRY_HEAD, Kind, LENGTH_OFFSET, MARKS_AT, SWITCHES_AT, TABLE_HEAD, bits, placing};
+use paths::copying::copy_in;
 use refusals::Refusal;
 use std::marker::Model;
 
@@ -80,6 +81,15 @@ impl<'a> Table<'a> {
         ensures { (result ≡ used_bytes self.now) × (result ≤ table_bytes) }
     {
         entry_offset(self.mem, word_at(self.mem, 0))
+    }
+
+    // Writes it into other memory that is large enough.
+    pub fn copy_to(&self, to: &mut [u8])
+        requires { table_bytes ≤ length to.old }
+        ensures { to.new ≡ put self.now to.old }
+    {
+        let end = self.used();
+        copy_in(to, 0, &self.mem[..end]);
     }
 
     // Its entries, in list order. A table keeps to the limits.

@@ -5,7 +5,6 @@ pub mod acting;
 pub mod bits;
 pub mod carrying;
 pub mod comparing;
-pub mod copying;
 pub mod held;
 pub mod holding;
 pub mod inserting;
@@ -82,13 +81,6 @@ pub enum Action {
     SetSwitches(u8),
     Revoke,
     RevokeAll,
-}
-
-// A place in a table's list: where the entry there begins, and how many entries are left, it among them.
-#[derive(Clone, Copy)]
-pub struct Cursor {
-    at: usize,
-    left: usize,
 }
 
 // An entry of a table's list: its kind, where its path begins in the memory and how many bytes it has.

@@ -1,10 +1,8 @@
-// Reading a table in lent memory: numbers, kinds, switches and marks, and its entries in list order, one after the other, by a cursor.
+// Reading a table in lent memory: numbers, kinds, paths, and where the entries begin.
 ghost use Rattle.std.specs.Prelude.{◌≡◌, true, ◌+◌, ◌<◌, ◌≤◌, length};
-ghost use Rattle.table.specs.Tables.{has, max_switches};
-ghost use Rattle.table.specs.Memory.{table_head, word_at, next_at, kind_from, entry_at, offset_at, table_of, are_within, holds};
-ghost use Rattle.table.specs.Reading.{Reads, first_entry, is_at_entry, entry_in, next_entry};
+ghost use Rattle.table.specs.Memory.{table_head, word_at, next_at, kind_from, entry_at, offset_at, are_within, holds};
 
-use crate::{Cursor, ENTRY_HEAD, Kind, LENGTH_OFFSET, MARKS_AT, SWITCHES_AT, TABLE_HEAD, bits};
+use crate::{ENTRY_HEAD, Kind, LENGTH_OFFSET, TABLE_HEAD};
 
 // ---- bytes
 
@@ -54,89 +52,4 @@ pub(crate) fn entry_offset(mem: &[u8], place: usize) -> usize
     ensures { result ≡ offset_at mem.now place table_head }
 {
     hop(mem, TABLE_HEAD, place)
-}
-
-// ---- switches and marks
-
-// The switches.
-#[tactic(auto, using(crate::proofs::Puts::long_of, crate::proofs::Within::switches_low), unfolding(crate::specs::Memory::table_of))]
-pub fn switches(mem: &[u8]) -> u8
-    requires { holds mem.now ≡ true }
-    ensures { (result ≡ (table_of mem.now).switches) × (result ≤ max_switches) }
-{
-    mem[SWITCHES_AT]
-}
-
-// The marks.
-#[tactic(auto, using(crate::proofs::Puts::long_of, crate::proofs::Within::marks_low), unfolding(crate::specs::Memory::table_of))]
-pub fn marks(mem: &[u8]) -> u8
-    requires { holds mem.now ≡ true }
-    ensures { (result ≡ (table_of mem.now).marks) × (result ≤ 7) }
-{
-    mem[MARKS_AT]
-}
-
-// Whether a switch is set.
-pub fn has_switch(mem: &[u8], bit: u8) -> bool
-    requires { (holds mem.now ≡ true) × (0 < bit) }
-    ensures { result ≡ has (table_of mem.now).switches bit }
-{
-    bits::has(switches(mem), bit)
-}
-
-// Whether a mark is set.
-pub fn has_mark(mem: &[u8], bit: u8) -> bool
-    requires { (holds mem.now ≡ true) × (0 < bit) }
-    ensures { result ≡ has (table_of mem.now).marks bit }
-{
-    bits::has(marks(mem), bit)
-}
-
-// ---- entries, by a cursor
-
-// Where the list begins.
-#[tactic(auto, using(crate::proofs::Puts::long_of), unfolding(crate::specs::Reading::first_entry))]
-pub fn first(mem: &[u8]) -> Cursor
-    requires { holds mem.now ≡ true }
-    ensures { result ≡ first_entry mem.now }
-{
-    Cursor {
-        at: TABLE_HEAD,
-        left: word_at(mem, 0),
-    }
-}
-
-// Whether an entry is there; else the list is at its end.
-#[tactic(auto, unfolding(crate::specs::Reading::is_at_entry))]
-pub fn is_at_entry(cursor: Cursor) -> bool
-    ensures { result ≡ is_at_entry cursor }
-{
-    cursor.left > 0
-}
-
-// The kind of the entry there.
-pub fn kind(mem: &[u8], cursor: Cursor) -> Kind
-    requires { Reads mem.now cursor }
-    ensures { result ≡ (entry_in mem.now cursor).kind }
-{
-    kind_from(mem[cursor.at])
-}
-
-// Its path.
-pub fn path(mem: &[u8], cursor: Cursor) -> &[u8]
-    requires { Reads mem.now cursor }
-    ensures { result.now ≡ (entry_in mem.now cursor).path }
-{
-    entry_path(mem, cursor.at)
-}
-
-// The next place of the list.
-pub fn advance(mem: &[u8], cursor: Cursor) -> Cursor
-    requires { Reads mem.now cursor }
-    ensures { result ≡ next_entry mem.now cursor }
-{
-    Cursor {
-        at: cursor.at + ENTRY_HEAD + word_at(mem, cursor.at + LENGTH_OFFSET),
-        left: cursor.left - 1,
-    }
 }

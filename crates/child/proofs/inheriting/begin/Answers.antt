@@ -20,7 +20,7 @@ unwrap-requires c = fresh-done c.requires.1 c.make_fresh.ensures
 
 pub returns-in-Inherit : goal.returns-in-Inherit
 unfolding first_child
-returns-in-Inherit c = rw c.in-Inherit.is c.copy_table.ensures
+returns-in-Inherit c = rw c.in-Inherit.is (rw c.of.ensures at c.copy_to.ensures)
 
 pub returns-in-Granted : goal.returns-in-Granted
 returns-in-Granted c = rw (first-fresh _ c.in-Granted.is) (made-fresh c.requires.1 c.make_fresh.ensures)

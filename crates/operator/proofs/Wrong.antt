@@ -82,7 +82,7 @@ use Rattle.deciding.specs.Decisions.{
 }
 use Rattle.calls.specs.declared.Asked.{Asked}
 use Rattle.calls.specs.declared.Revoked.{Revoked}
-use Rattle.calls.specs.Calls.{carried_out, answer_in, asked_in, decided_acts, settled, About, about, ask_call, text_due, revoke_call, Asks, Revokes}
+use Rattle.calls.specs.Calls.{carried_out, answer_in, asked_in, decided_acts, settled, About, about, ask_call, text_due, revoked_answer, revoke_call, Asks, Revokes}
 use Rattle.operator.specs.Operator.{
   is_open,
   Operator,
@@ -233,6 +233,7 @@ module _ (deciding : Deciding) (t : Table) (v : is_table t ≡ true) (p : List �
   request-breaks : (x : List ℕ) (act : Act) → decided_acts (Ok decision) ≡ act ∷ []
       → Answered (says_no x) (asked_in (Ok decision)) (query_of Path (resolve p [])) response
       → IsShut t x → all_fit t (act ∷ []) ≡ true → IsOpen (apply_acts t (act ∷ [])) x → Claim (asking deciding) → ⊥
+  unfolding asked_in
   request-breaks x act acts may shut fits opened C =
       let step : Step (asking deciding) (says_no x) m (do_acts m (act ∷ [])) =
       operator.asks Request Plain 0 [] text_room a response _ _ _ _ (rw acts at asked) may

@@ -46,7 +46,19 @@ use Rattle.deciding.specs.Decisions.{Decision}
 use Rattle.items.specs.Items.{ItemList}
 use Rattle.calls.specs.Calls.{answer_in, decided_acts, About, ask_call, text_due, revoke_call}
 use Rattle.calls.specs.Changes.{switches_call, insert_call}
-use Rattle.calls.proofs.AnswerLaws.{asked_by, asked-state, asked-told, asked-text, asked-words, revoked_by, revoked-state, revoked-words, sent_by, sent-cause, sent-size}
+use Rattle.calls.proofs.AnswerLaws.{
+  asked_by,
+  asked-state,
+  asked-told,
+  asked-text,
+  asked-words,
+  revoked_by,
+  revoked-state,
+  revoked-words,
+  sent_by,
+  sent-cause,
+  sent-size,
+}
 use Rattle.child.specs.Calls.{Creation, child_call, refusal_in, times_asked, child_acts, child_after}
 use Rattle.standby.specs.declared.Numbers.{Numbers}
 use Rattle.standby.specs.declared.Arrival.{Arrival}
@@ -176,8 +188,12 @@ module _ (run : ℕ) (a : Main) (w : List ℕ) where
         step =
             asks kind w s what response (space acts) (begun text s) (asked_by size size-none call what) b c
             (record {
-              answers =
-                  rw e (record { answer = asked-state size size-none what call; asked = asked-told size size-none what call; size = asked-text size size-none what call; space = refl });
+              answers = rw e (record {
+                answer = asked-state size size-none what call;
+                asked = asked-told size size-none what call;
+                size = asked-text size size-none what call;
+                space = refl;
+              });
               sends = rw (asked-words size size-none what call) (sends-left acts (rw e));
             }) (rw e) (rw (asked-words size size-none what call) (at-start _ _));
         is = rw (asked-state size size-none what call);

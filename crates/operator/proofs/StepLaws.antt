@@ -102,7 +102,8 @@ answers_by link n {a} {c = c} s e =
 pub asks-by : {call : Call} {link : Link} {l : Lent} {s : List ℕ} {a : About} {response : ℕ} {c : Result Decision} → ask_call call link l s a response ≡ c
     → Asks call link l s a response (leaves link (decided_acts c) l) (begun (text_due c a) s) (result_of link l.number c a)
 asks-by {link = link} {l = l} {s = s} {a = a} {c = c} e =
-    record { answers = answers_by link l.number s e; sends = rw (asked-words (words_of link l.number) (no-words link l.number) a c) (sends-by l (ap decided_acts e)) }
+    let told = asked-words (words_of link l.number) (no-words link l.number) a c in
+    record { answers = answers_by link l.number s e; sends = rw told (sends-by l (ap decided_acts e)) }
 
 pub revokes-by : {link : Link} {l : Lent} {a : About} {c : Result Decision} → revoke_call link l a ≡ c
     → Revokes link l a (leaves link (decided_acts c) l) (revoked_of link l.number c)

@@ -1,7 +1,7 @@
 -- The script of `specs/Witness.antt`: what each call decides on the table that it meets computes.
 use Rattle.std.specs.Prelude.{Some, Ok, Err}
 use Prim.Native.Nat.{ℕ, ◌*◌}
-use mathlib.Core.Path.{◌≡◌, refl, sym, ap, ◌∙◌}
+use mathlib.Core.Path.{◌≡◌, refl, sym, ◌∙◌}
 use mathlib.Core.List.{List, [], ◌∷◌, ◌++◌}
 use mathlib.Core.Bool.{true, false, false≢true}
 use native.Mathlib.Omega.{arith}
@@ -46,7 +46,6 @@ use Rattle.records.specs.Numbers.{is_run, record_space}
 use Rattle.link.specs.declared.Link.{Link}
 use Rattle.link.specs.declared.Link.TheVariants.{Plain, Linked}
 use Rattle.link.specs.Linking.{at_least_one, lacks_room, numbering, lacks_run, used_up, carry_cause}
-use Rattle.link.specs.Sending.{lent}
 use Rattle.link.specs.Steps.{Admits}
 use Rattle.link.proofs.LinkLaws.{plain-admits}
 use Rattle.walk.specs.declared.PermissionState.{PermissionState}

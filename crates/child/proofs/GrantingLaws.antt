@@ -38,7 +38,7 @@ use Rattle.child.specs.Making.{Made, nothing, then, count_of, passed_on, item_st
 use Rattle.child.specs.Steps.{child_sent, MakesChild, MakesSent, SendsItem}
 use Rattle.child.proofs.MakingLaws.{then-stops, then-goes, item-acts}
 use Rattle.items.proofs.ItemListLaws.{known-drop}
-use Rattle.child.proofs.ItemLaws.{item_refused, item-made, Going, going_start, first-item, going-once, going-parent, going-child, left-parent, left-child, going-stops, going_next, going_done, all-none, all_one}
+use Rattle.child.proofs.ItemLaws.{item_refused, item-made, Going, going_start, first-item, going-once, left-parent, left-child, going-stops, going_next, going_done, all-none, all_one}
 
 -- ---- one item
 
@@ -79,7 +79,6 @@ module _ {link : Link} {m : List ℕ} {n : ℕ} {w : List ℕ} {at : ℕ} {d : D
 -- start.
 pub record GoingSent (cwd bytes ends responses m₀ c₀ : List ℕ) (link : Link) (n₀ : ℕ) (w₀ m c : List ℕ) (n : ℕ) (w : List ℕ) (asked at from i : ℕ) : Type 0 where
   pub items : Going (numbering link n₀) (numbering link n) cwd bytes ends responses m₀ c₀ m c asked from i
-  pub same-words : length w ≡ length w₀
   pub tested : Admits (length ends) link w
   pub few : at ≤ record_space * i
   pub goes : (known : List PromptResponse) → known_responses responses ≡ Ok known → (n' : ℕ) (w' : List ℕ) (r : ℕ)
@@ -90,7 +89,6 @@ pub sent-start : (cwd bytes ends responses m c : List ℕ) (link : Link) (n : �
     → Admits (length ends) link w → GoingSent cwd bytes ends responses m c link n w m c n w 0 0 0 0
 sent-start cwd bytes ends responses m c link n w h k e s = record {
   items = going_start (numbering link n) cwd bytes ends responses m c h k e;
-  same-words = refl;
   tested = s;
   few = omega arith;
   goes = λ known f n' w' r R. R;
@@ -114,12 +112,6 @@ module _ {cwd bytes ends responses m₀ c₀ : List ℕ} {link : Link} {n₀ : �
     pub sent-once : r.made.asked ≤ 1
     sent-once = going-once G.items h l e f A.sent.makes
 
-    pub sent-parent : length m₁ ≡ length m₀
-    sent-parent = going-parent G.items h l e f A.sent.makes
-
-    pub sent-child : length c₁ ≡ length c₀
-    sent-child = going-child G.items h l e f A.sent.makes
-
     pub sent-stops : {cause : Refusal} {k : ℕ} {a : ChildSent} → r.made.outcome ≡ Err cause → k ≡ asked + r.made.asked → a ≡ child_sent (Err cause) k r.words
         → (known : List PromptResponse) → known_responses responses ≡ Ok known
         → MakesSent (all_items (numbering link n₀) cwd (list_items bytes 0 ends known) (table_of m₀) (table_of c₀)) link (lent m₀ n₀ w₀) c₀ 0 (lent m₁ n₁ w₁) c₁ a
@@ -138,7 +130,6 @@ module _ {cwd bytes ends responses m₀ c₀ : List ℕ} {link : Link} {n₀ : �
         → GoingSent cwd bytes ends responses m₀ c₀ link n₀ w₀ m₁ c₁ n₁ w₁ k r.words end (i + 1)
     sent-next {k} o g s = record {
       items = going_next G.items h l e f A.sent.makes o g numbers;
-      same-words = s ∙ G.same-words;
       tested = admits-same s G.tested;
       few = omega (arith, A.few, G.few);
       goes = λ known j n' w' r' R.

@@ -146,8 +146,6 @@ module _ (k : ℕ) {a : Made} {m c m₁ c₁ : List ℕ} {r : ChildMade} (A : Ma
 pub record Going (numbers₀ numbers : Numbering) (cwd bytes ends responses m₀ c₀ m c : List ℕ) (asked from i : ℕ) : Type 0 where
   pub parent : holds m ≡ true
   pub child : holds c ≡ true
-  pub same-parent : length m ≡ length m₀
-  pub child-length : length c ≡ length c₀
   pub few : asked ≤ i
   pub closes : close_at (length bytes) from (drop i ends) ≡ true
   pub goes : (known : List PromptResponse) → known_responses responses ≡ Ok known → (m' c' : List ℕ) (r : ChildMade)
@@ -160,8 +158,6 @@ unfolding counted
 going_start numbers cwd bytes ends responses m c h k e = record {
   parent = h;
   child = k;
-  same-parent = refl;
-  child-length = refl;
   few = omega arith;
   closes = e;
   goes = λ known f m' c' r M. record { outcome = M.outcome; asked = omega (arith, M.asked); parent = M.parent; child = M.child };
@@ -202,12 +198,6 @@ module _ {numbers₀ numbers : Numbering} {cwd bytes ends responses m₀ c₀ m 
     pub left-child : Acted c (item_step numbers cwd item (table_of m) (table_of c)).grants
     left-child = item-child numbers cwd item m c G.parent G.child
 
-    pub going-parent : length m₁ ≡ length m₀
-    going-parent = ap length A.parent ∙ left-parent.same ∙ G.same-parent
-
-    pub going-child : length c₁ ≡ length c₀
-    going-child = ap length A.child ∙ left-child.same ∙ G.child-length
-
     pub going-stops : {cause : Refusal} {n : ℕ} → r.outcome ≡ Err cause → n ≡ asked + r.asked
         → (known : List PromptResponse) → known_responses responses ≡ Ok known
         → Makes (all_items numbers₀ cwd (list_items bytes 0 ends known) (table_of m₀) (table_of c₀)) m₀ c₀ m₁ c₁ (child_made (Err cause) n)
@@ -218,8 +208,6 @@ module _ {numbers₀ numbers : Numbering} {cwd bytes ends responses m₀ c₀ m 
     going_next {n} o g p = record {
       parent = rw A.parent left-parent.holding;
       child = rw A.child left-child.holding;
-      same-parent = going-parent;
-      child-length = going-child;
       few = omega (arith, G.few, A.asked, item-once numbers cwd item (table_of m) (table_of c));
       closes = rw f (closing-next (length bytes) from ends i h G.closes).rest;
       goes = λ known k m' c' r' M.

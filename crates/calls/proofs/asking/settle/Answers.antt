@@ -8,8 +8,8 @@ use Rattle.calls.proofs.asking.settle.Goals as goal
 pub shared_ref_as_front-settle_query : goal.shared_ref_as_front-settle_query
 shared_ref_as_front-settle_query c = (gives-stands c.in_ok-size.ensures refl).short
 
-pub settle_query-requires : goal.settle_query-requires
-settle_query-requires c = record { mem_value = c.requires; resolved_value = (gives-stands c.in_ok-size.ensures refl).fits }
+pub settle_query-requires-clause-resolved_value : goal.settle_query-requires-clause-resolved_value
+settle_query-requires-clause-resolved_value c = (gives-stands c.in_ok-size.ensures refl).fits
 
 pub returns-in_err-size : goal.returns-in_err-size
 returns-in_err-size c =

@@ -14,8 +14,8 @@ slice_bounds-resolved-end c = (settled-stands c.settle.ensures c.in-Ok.is).room
 pub slice_bounds-pass_on-end : goal.slice_bounds-pass_on-end
 slice_bounds-pass_on-end c = sym (length-take-le _ _ (settled-stands c.settle.ensures c.in-Ok.is).room)
 
-pub pass_on-requires : goal.pass_on-requires
-pass_on-requires c = record { child_value = c.requires.1; q_value = (settled-stands c.settle.ensures c.in-Ok.is).fits }
+pub pass_on-requires-clause-q_value : goal.pass_on-requires-clause-q_value
+pass_on-requires-clause-q_value c = (settled-stands c.settle.ensures c.in-Ok.is).fits
 
 pub returns-in-Err : goal.returns-in-Err
 returns-in-Err c = item-stops c.settle.ensures _ c.in-Err.is c.new.ensures

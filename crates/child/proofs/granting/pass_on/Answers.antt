@@ -10,10 +10,10 @@ use Rattle.child.proofs.granting.pass_on.Goals as goal
 pub returns-then-ne : goal.returns-then-ne
 returns-then-ne c = passes-not _ _ (grind (arith, common_steps, same-pass c.args.state))
 
-pub carry_out-requires : goal.carry_out-requires
+pub carry_out-requires-clause-q_value : goal.carry_out-requires-clause-q_value
 unfolding fits
-carry_out-requires c =
-    record { mem_value = c.requires.child_value; q_value = rw (c.grant_action-action.ensures c.args.q.now, c.of.ensures) (grant-fits _ (valid-of _ c.requires.child_value) _ c.requires.q_value) }
+carry_out-requires-clause-q_value c =
+    rw (c.grant_action-action.ensures c.args.q.now, c.of.ensures) (grant-fits _ (valid-of _ c.requires.child_value) _ c.requires.q_value)
 
 pub returns : goal.returns
 returns c =

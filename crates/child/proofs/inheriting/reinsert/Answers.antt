@@ -9,7 +9,7 @@ use Rattle.child.proofs.TakeOverLaws.{skips, inserts-again}
 use Rattle.child.proofs.inheriting.reinsert.Goals as goal
 
 pub returns-then-eq : goal.returns-then-eq
-returns-then-eq c = skips (entry_of c.args.entry) (sym (same-grant _) ∙ sym c.eq.ensures ∙ c.if-eq.true)
+returns-then-eq c = skips (entry_of c.args.entry) (sym (same-grant _) ∙ sym c.if-eq.ensures)
 
 pub carry_out-requires-clause-q_value : goal.carry_out-requires-clause-q_value
 unfolding act_of fits is_act
@@ -17,4 +17,4 @@ carry_out-requires-clause-q_value c = c.args.entry.sound
 
 pub returns : goal.returns
 unfolding act_of
-returns c = inserts-again (entry_of c.args.entry) (sym (same-grant _) ∙ sym c.eq.ensures ∙ c.if-eq.false) (grants-carried c.carry_out.ensures)
+returns c = inserts-again (entry_of c.args.entry) (sym (same-grant _) ∙ sym c.if-eq.ensures) (grants-carried c.carry_out.ensures)

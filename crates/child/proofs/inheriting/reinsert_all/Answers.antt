@@ -1,16 +1,7 @@
-use mathlib.Core.Path.{refl, ap, ◌∙◌}
+use mathlib.Core.Path.{refl}
 use Rattle.std.proofs.lemmas.Result.{err_from_is_err_and}
-use Rattle.table.specs.Tables.{Table}
-use Rattle.child.proofs.TakeOverLaws.{inserting-start, inserting-done, inserting-stops, inserting-next}
+use Rattle.child.proofs.TakeOverLaws.{inserting-done, inserting-stops, inserting-next}
 use Rattle.child.proofs.inheriting.reinsert_all.Goals as goal
-
-pub loop-entry-init : goal.loop-entry-init
-loop-entry-init c =
-    inserting-start _ _
-    (c.into_iter-entry-iterator.ensures.into_iter_gives ∙ c.entries-entry-items.ensures.list ∙ ap (λ (t : Table). t.entries) c.of.ensures) c.requires.1
-
-pub reinsert-requires : goal.reinsert-requires
-reinsert-requires c = c.loop-entry.invariant.child
 
 pub loop-entry-preserved : goal.loop-entry-preserved
 loop-entry-preserved c = inserting-next c.loop-entry.invariant c.in-Some.ensures.steps c.in-Some.entry.sound c.in_ok-reinsert.ensures refl

@@ -108,16 +108,7 @@ pub fn revoked(
 pub fn revoked_plainly(mem: &mut [u8], d: Descriptor, path: &[u8], cwd: &[u8]) -> i32
     ensures { ExportedRevoke (Revokes Plain (alone mem.old) (about d «path».now cwd.now) (alone mem.new)) 0 result }
 {
-    revoked(
-        mem,
-        Link::Plain,
-        &mut 0,
-        &mut [],
-        d,
-        path,
-        cwd,
-        &mut 0,
-    )
+    revoked(mem, Link::Plain, &mut 0, &mut [], d, path, cwd, &mut 0)
 }
 
 // Makes a child's table. How often the operator was asked goes to `told`, and how many words hold records to `count`.

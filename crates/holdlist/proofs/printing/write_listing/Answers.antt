@@ -1,5 +1,4 @@
 -- `write_listing` meets its contract.
-use mathlib.Core.Path.{◌≡◌}
 use native.Mathlib.Omega.{arith}
 use Rattle.table.specs.Memory.{table_of}
 use Rattle.holdlist.specs.Holding.{standing}

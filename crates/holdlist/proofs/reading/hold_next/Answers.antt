@@ -5,7 +5,7 @@ use native.Mathlib.Omega.{arith}
 use lib.Seq.{length-take-le}
 use Rattle.input.proofs.WordLaws.{words_left}
 use Rattle.holdlist.specs.Holding.{record_space, standing}
-use Rattle.holdlist.proofs.HoldingLaws.{words_inside, NextRecord, next-record, holds-malformed}
+use Rattle.holdlist.proofs.HoldingLaws.{words_inside, next-record, holds-malformed}
 use Rattle.holdlist.proofs.reading.hold_next.Goals as goal
 
 pub slice_bounds-words-end : goal.slice_bounds-words-end

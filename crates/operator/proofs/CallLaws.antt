@@ -12,7 +12,7 @@ use Rattle.paths.specs.declared.Descriptor.TheVariants.{NoPath, Path}
 use Rattle.paths.specs.Resolving.{resolve}
 use Rattle.paths.specs.Relations.{is_prefix}
 use Rattle.paths.specs.Giving.{Query, no_path, path, query_of, resolved, given}
-use Rattle.table.specs.declared.Kind.TheVariants.{G, P}
+use Rattle.table.specs.declared.Kind.TheVariants.{G}
 use Rattle.table.specs.Tables.{Table, has, prompt, granted, flag_ignored}
 use Rattle.table.specs.Acts.{Act, insert, apply_act, apply_acts}
 use Rattle.table.specs.Memory.{table_of, holds, do_acts}

@@ -142,7 +142,7 @@ module _ {m : List ℕ} {t : Table} (S : Stands m t) (d : Descriptor) (p : List 
     unfolding line_of
     ask-steps call response e f = record {
       step = operator.asks call link 0 w text_room (about d p []) response _ _ _ _ (asks-by (ask-on S (about d p []) A 0 call response ∙ e))
-      (rw (asked-told (words_of link 0) (no-words link 0) (about d p []) c) f);
+          (rw (asked-told (words_of link 0) (no-words link 0) (about d p []) c) f);
       is = rw (asked-told (words_of link 0) (no-words link 0) (about d p []) c, asked-state (words_of link 0) (no-words link 0) (about d p []) c);
     }
 

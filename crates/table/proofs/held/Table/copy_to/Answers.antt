@@ -2,7 +2,6 @@
 use mathlib.Core.Path.{sym, ap, ◌∙◌}
 use native.Mathlib.Omega.{arith}
 use lib.Seq.{length-take-le}
-use Rattle.table.specs.Tables.{Table}
 use Rattle.table.specs.Listing.{used_bytes}
 use Rattle.table.proofs.Puts.{long_of}
 use Rattle.table.proofs.TableCopies.{copy-law}

@@ -20,7 +20,7 @@ pub enum ChildUnaryPermissionArg {
     GrantedList,
 }
 
-// What a child call answers, and how often the operator was asked, also where it is refused.
+// What a child call answers, and how often the operator was asked. No `Result` of the count: it is told where the call is refused, too.
 #[derive(Clone, Copy)]
 pub struct ChildMade {
     pub outcome: Result<(), Refusal>,

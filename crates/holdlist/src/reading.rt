@@ -77,6 +77,7 @@ pub fn hold(mem: &mut [u8], numbers: Numbers, bytes: &[u8], keep: usize) -> Held
         words: 0,
         stopped: false,
     };
+    // no `for`: where the next record begins is found by holding this one
     while !held.stopped && bytes.len() - 4 * held.words > keep {
         held = hold_next(mem, held, bytes);
     }

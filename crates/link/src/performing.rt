@@ -75,6 +75,7 @@ fn perform_linked(
 }
 
 // Carries an act out and, where the call is linked, records it from an offset of the record space on; or it is refused by 8 or 9. It tells where the record ends.
+// Link, number and words stay three parameters, here and above: a struct of the two `&mut` would need in each promise that it still holds the same ones.
 pub fn perform(
     mem: &mut [u8],
     link: Link,

@@ -10,7 +10,8 @@ pub fn copy_in(mem: &mut [u8], at: usize, src: &[u8])
     mem[at..at + src.len()].copy_from_slice(src);
 }
 
-// Writes a piece into the space from an offset on, and says where it ends.
+// Writes a piece into the space from an offset on, and says where it ends. Here and above the offset stands beside lent space, which is fixed memory and has
+// no length that grows.
 pub fn append(space: &mut [u8], at: usize, piece: &[u8]) -> usize
     requires { at + length piece.now ≤ length space.old }
     ensures { Appends piece.now space.old at space.new result }

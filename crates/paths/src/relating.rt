@@ -39,6 +39,7 @@ pub fn relate(p: &[u8], q: &[u8]) -> Comparison
     let mut common: usize = 0;
     let mut i = 0;
     let mut j = 0;
+    // no `for`: where the next components begin is found in this turn
     'components: loop {
         i = next_component(p, i);
         j = next_component(q, j);

@@ -116,7 +116,7 @@ fn read_path(
     read_path_of(words, n, at, left, space)
 }
 
-// The act of a head that takes a path.
+// The act of a head that takes a path, by the format's numbers, which are not those of the kinds.
 #[tactic(auto, unfolding(table::specs::Carrying::action_of, crate::specs::Steps::path_act))]
 fn path_action(act: u8) -> Action
     ensures { (q : List ℕ) → result ≡ action_of (Some (path_act act q)) }

@@ -14,7 +14,7 @@ pub fn is_granted(kind: Kind) -> bool
     kind == Kind::G
 }
 
-// The rank of a kind among entries with one path.
+// The rank of a kind among entries with one path, which is not its number.
 fn kind_precedence(kind: Kind) -> u8
     ensures { result ≡ kind_precedence kind }
 {

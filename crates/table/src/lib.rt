@@ -66,7 +66,7 @@ pub enum Kind {
     I,
 }
 
-// Where an insert puts its entry: nowhere, as an equal one is found, or at a place of the list.
+// Where an insert puts its entry: nowhere, as an equal one is found, or at a place of the list. No `Option`: `Found` says what `None` would not.
 #[derive(Clone, Copy)]
 pub enum Place {
     Found,

@@ -38,6 +38,7 @@ fn search(mem: &[u8], kind: Kind, path: &[u8]) -> Probe
     let mut base = 0;
     let mut at = TABLE_HEAD;
     let mut size = reading::word_at(mem, 0);
+    // no `binary_search_by`: entries differ in length, so that there is no slice of them
     while size > 1 {
         let half = size / 2;
         let middle = reading::hop(mem, at, half);

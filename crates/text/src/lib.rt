@@ -16,7 +16,7 @@ pub const ESCAPED_BYTES: usize = 3;
 // The most digits that a number of 64 bits has in decimal.
 pub const DECIMAL_DIGITS: usize = 20;
 
-// The letter of a kind.
+// The letter of a kind. No `Display`: lines are put together in fixed memory, byte by byte.
 pub fn kind_letter(kind: Kind) -> u8
     ensures { result ≡ kind_letter kind }
 {

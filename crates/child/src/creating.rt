@@ -2,7 +2,7 @@
 ghost use Rattle.std.specs.Prelude.{◌≡◌, true};
 ghost use Rattle.table.specs.Memory.{table_of, holds};
 ghost use Rattle.link.specs.Sending.{lent};
-ghost use Rattle.items.specs.Items.{item_list};
+ghost use Rattle.items.specs.Items.{items_in};
 ghost use Rattle.child.specs.Making.{take_over};
 ghost use Rattle.child.specs.Calls.{CreatesChild};
 ghost use Rattle.child.specs.Steps.{after_items, Completes, Tests};
@@ -11,7 +11,7 @@ use crate::arguments::are_in_order;
 use crate::granting::grant_all;
 use crate::inheriting::{begin, take_over};
 use crate::{ChildSent, ChildUnaryPermissionArg};
-use items::are_responses;
+use items::{ItemList, are_responses};
 use link::Link;
 use link::linking::admit;
 use refusals::Refusal;
@@ -26,18 +26,16 @@ fn test_call(
     child: &[u8],
     words: &[u32],
     code: u32,
-    bytes: &[u8],
-    ends: &[u32],
-    responses: &[u32],
+    list: ItemList<'_>,
 ) -> Result<ChildUnaryPermissionArg, Refusal>
-    ensures { Tests link parent.now words.now child.now code (item_list bytes.now ends.now responses.now) result }
+    ensures { Tests link parent.now words.now child.now code (items_in list.entry) result }
 {
     if !holds_table(parent) || child.len() < TABLE_BYTES {
         return Err(Refusal::NoTable);
     }
-    admit(link, ends.len(), words)?;
+    admit(link, list.ends.len(), words)?;
     let arg = ChildUnaryPermissionArg::try_from(code)?;
-    if are_responses(responses) && are_in_order(arg, bytes, ends, responses) {
+    if are_responses(list.responses) && are_in_order(arg, list) {
         Ok(arg)
     } else {
         Err(Refusal::Unknown)
@@ -69,21 +67,17 @@ pub fn create_child_permissions(
     child: &mut [u8],
     words: &mut [u32],
     code: u32,
-    bytes: &[u8],
-    ends: &[u32],
-    responses: &[u32],
+    list: ItemList<'_>,
     cwd: &[u8],
 ) -> ChildSent
-    ensures { CreatesChild link (lent parent.old number.old words.old) child.old code (item_list bytes.now ends.now responses.now) cwd.now (lent parent.new number.new words.new) child.new result }
+    ensures { CreatesChild link (lent parent.old number.old words.old) child.old code (items_in list.entry) cwd.now (lent parent.new number.new words.new) child.new result }
 {
-    let arg = match test_call(parent, link, child, words, code, bytes, ends, responses) {
+    let arg = match test_call(parent, link, child, words, code, list) {
         Ok(arg) => arg,
         Err(cause) => return ChildSent::new(Err(cause), 0, 0),
     };
     begin(parent, child, arg);
-    let sent = grant_all(
-        parent, child, link, number, words, arg, bytes, ends, responses, cwd,
-    );
+    let sent = grant_all(parent, child, link, number, words, arg, list, cwd);
     let made = sent.made;
     ChildSent::new(
         complete(parent, child, made.outcome),

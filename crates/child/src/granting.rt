@@ -15,7 +15,7 @@ use crate::{ChildSent, ChildUnaryPermissionArg};
 use calls::asking::settle;
 use deciding::decisions::grant_action;
 use deciding::{Call, PromptResponse};
-use items::response_at;
+use items::{ItemList, response_at};
 use link::Link;
 use paths::{Descriptor, MAX_PATH};
 use refusals::Refusal;
@@ -82,18 +82,16 @@ fn grant_items(
     link: Link,
     number: &mut u64,
     words: &mut [u32],
-    bytes: &[u8],
-    ends: &[u32],
-    responses: &[u32],
+    list: ItemList<'_>,
     cwd: &[u8],
 ) -> ChildSent
-    requires { (holds parent.old ≡ true) × (holds child.old ≡ true) × Listed bytes.now ends.now responses.now × Admits (length ends.now) link words.old }
-    ensures { SendsItems cwd.now (list_items bytes.now 0 ends.now) responses.now link (lent parent.old number.old words.old) child.old (lent parent.new number.new words.new) child.new result }
+    requires { (holds parent.old ≡ true) × (holds child.old ≡ true) × Listed list.bytes.now list.ends.now list.responses.now × Admits (length list.ends.now) link words.old }
+    ensures { SendsItems cwd.now (list_items list.entry.bytes.now 0 list.entry.ends.now) list.entry.responses.now link (lent parent.old number.old words.old) child.old (lent parent.new number.new words.new) child.new result }
 {
     let mut asked = 0;
     let mut at = 0;
     let mut from = 0;
-    for (i, end) in ends.iter().enumerate() {
+    for (i, end) in list.ends.iter().enumerate() {
         let end = *end as usize;
         let sent = grant_item(
             parent,
@@ -103,9 +101,9 @@ fn grant_items(
             words,
             at,
             Descriptor::Path,
-            &bytes[from..end],
+            &list.bytes[from..end],
             cwd,
-            response_at(responses, i),
+            response_at(list.responses, i),
         );
         at = sent.words;
         asked += sent.made.asked;
@@ -125,15 +123,13 @@ pub(crate) fn grant_all(
     number: &mut u64,
     words: &mut [u32],
     arg: ChildUnaryPermissionArg,
-    bytes: &[u8],
-    ends: &[u32],
-    responses: &[u32],
+    list: ItemList<'_>,
     cwd: &[u8],
 ) -> ChildSent
     requires parent_value { (holds parent.old ≡ true) × (holds child.old ≡ true) }
-    requires responses_value { (are_responses responses.now ≡ true) × (are_in_order arg bytes.now ends.now responses.now ≡ true) }
-    requires admits { Admits (length ends.now) link words.old }
-    ensures { SendsItems cwd.now (items_of arg bytes.now ends.now) responses.now link (lent parent.old number.old words.old) child.old (lent parent.new number.new words.new) child.new result }
+    requires responses_value { (are_responses list.responses.now ≡ true) × (are_in_order arg list.bytes.now list.ends.now list.responses.now ≡ true) }
+    requires admits { Admits (length list.ends.now) link words.old }
+    ensures { SendsItems cwd.now (items_of arg list.entry.bytes.now list.entry.ends.now) list.entry.responses.now link (lent parent.old number.old words.old) child.old (lent parent.new number.new words.new) child.new result }
 {
     match arg {
         ChildUnaryPermissionArg::Inherit | ChildUnaryPermissionArg::NotGranted => {
@@ -149,10 +145,10 @@ pub(crate) fn grant_all(
             Descriptor::NoPath,
             b"",
             cwd,
-            response_at(responses, 0),
+            response_at(list.responses, 0),
         ),
         ChildUnaryPermissionArg::GrantedList => grant_items(
-            parent, child, link, number, words, bytes, ends, responses, cwd,
+            parent, child, link, number, words, list, cwd,
         ),
     }
 }

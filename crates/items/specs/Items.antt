@@ -6,6 +6,7 @@ use Rattle.paths.specs.declared.Descriptor.{Descriptor}
 use Rattle.paths.specs.declared.Descriptor.TheVariants.{Path}
 use Rattle.deciding.specs.declared.PromptResponse.{PromptResponse}
 use Rattle.deciding.specs.Decisions.{response_of, known_response}
+use Rattle.items.specs.declared.ItemList as code
 
 -- ---- as it is handed in
 
@@ -16,6 +17,10 @@ pub record ItemList : Type 0 where
 
 abbrev pub item_list : List ℕ → List ℕ → List ℕ → ItemList
 item_list bytes ends responses = record { bytes = bytes; ends = ends; responses = responses }
+
+-- the list that the code's one lends
+abbrev pub items_in : code.ItemList → ItemList
+items_in list = item_list list.bytes.now list.ends.now list.responses.now
 
 -- ---- answers
 

@@ -12,6 +12,14 @@ use deciding::PromptResponse;
 // The most items of a list.
 pub const MAX_ITEMS: usize = 64;
 
+// The paths' bytes, the position at which each path ends, and the answers' numbers.
+#[derive(Clone, Copy)]
+pub struct ItemList<'a> {
+    pub bytes: &'a [u8],
+    pub ends: &'a [u32],
+    pub responses: &'a [u32],
+}
+
 // Whether every answer is known.
 #[tactic(auto, unfolding(crate::specs::Steps::are_responses))]
 pub fn are_responses(responses: &[u32]) -> bool

@@ -27,6 +27,7 @@ ghost use Rattle.results.specs.Exports.{
 
 use calls::changing;
 use deciding::Call;
+use items::ItemList;
 use link::Link;
 use paths::Descriptor;
 use results::calling::{asked_plainly, asks, created, revoked_plainly};
@@ -285,9 +286,11 @@ pub extern "C" fn permissions_child(
         child,
         &mut [],
         code,
-        bytes,
-        ends,
-        responses,
+        ItemList {
+            bytes,
+            ends,
+            responses,
+        },
         cwd,
         told,
         &mut 0,

@@ -13,6 +13,7 @@ ghost use Rattle.results.specs.Exports.{ExportedBegin, ExportedSent, ExportedAsk
 
 use calls::changing;
 use deciding::Call;
+use items::ItemList;
 use link::beginning::begin_run;
 use link::{Link, imaging};
 use paths::Descriptor;
@@ -277,9 +278,11 @@ pub extern "C" fn permissions_linked_child(
         child,
         words,
         code,
-        bytes,
-        ends,
-        responses,
+        ItemList {
+            bytes,
+            ends,
+            responses,
+        },
         cwd,
         told,
         count,

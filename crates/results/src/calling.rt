@@ -1,7 +1,7 @@
 // Check, request, revoke and child, plain and linked, with their answer as one signed number and further ones lent, which are always written.
 ghost use Rattle.link.specs.declared.Link.TheVariants.{Plain};
 ghost use Rattle.link.specs.Sending.{lent, alone};
-ghost use Rattle.items.specs.Items.{item_list};
+ghost use Rattle.items.specs.Items.{items_in};
 ghost use Rattle.calls.specs.Calls.{about, Asks, Revokes};
 ghost use Rattle.child.specs.Calls.{CreatesChild};
 ghost use Rattle.results.specs.Exports.{ExportedAsk, ExportedQuestion, ExportedRevoke, ExportedChild};
@@ -12,6 +12,7 @@ use calls::revoking::revoke;
 use child::creating::create_child_permissions;
 use deciding::Call;
 use deciding::questioning::question;
+use items::ItemList;
 use link::Link;
 use paths::Descriptor;
 
@@ -119,18 +120,14 @@ pub fn created(
     child: &mut [u8],
     words: &mut [u32],
     code: u32,
-    bytes: &[u8],
-    ends: &[u32],
-    responses: &[u32],
+    list: ItemList<'_>,
     cwd: &[u8],
     told: &mut u32,
     count: &mut usize,
 ) -> i32
-    ensures { ExportedChild (CreatesChild link (lent parent.old number.old words.old) child.old code (item_list bytes.now ends.now responses.now) cwd.now (lent parent.new number.new words.new) child.new) told.new count.new result }
+    ensures { ExportedChild (CreatesChild link (lent parent.old number.old words.old) child.old code (items_in list.entry) cwd.now (lent parent.new number.new words.new) child.new) told.new count.new result }
 {
-    let sent = create_child_permissions(
-        parent, link, number, child, words, code, bytes, ends, responses, cwd,
-    );
+    let sent = create_child_permissions(parent, link, number, child, words, code, list, cwd);
     *told = sent.made.asked as u32;
     *count = sent.words;
     outcome_number(sent.made.outcome)

@@ -3,4 +3,4 @@ use Rattle.child.proofs.GrantingLaws.{GoingSent}
 use Rattle.child.proofs.granting.grant_items.Given as goal
 
 abbrev pub invariant-loop-i : goal.invariant-loop-i
-invariant-loop-i l = GoingSent l.cwd l.bytes l.ends l.responses l.initial.parent l.initial.child l.link l.initial.number l.initial.words l.parent l.child l.number l.words l.asked l.at l.from l.i
+invariant-loop-i l = GoingSent l.cwd l.list.bytes.now l.list.ends.now l.list.responses.now l.initial.parent l.initial.child l.link l.initial.number l.initial.words l.parent l.child l.number l.words l.asked l.at l.from l.i

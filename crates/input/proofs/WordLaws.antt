@@ -66,8 +66,3 @@ module _ (ws : List ℕ) {space words : List ℕ} {count : ℕ} (W : Appends ws 
   pub taken-words : take count words ≡ ws
   unfolding begun
   taken-words = rw ((from_start W).1, (from_start W).0) (take-append_seam ws _)
-
--- their bytes are there
-pub words_left : (bytes : List ℕ) (from most : ℕ) {space words : List ℕ} {count : ℕ} → Appends (take most (words_of (drop from bytes))) space 0 words count
-    → from ≤ length bytes → from + 4 * count ≤ length bytes
-words_left bytes from most W h = omega (arith, (from_start W).1, length-take most (words_of (drop from bytes)), words-after bytes from)

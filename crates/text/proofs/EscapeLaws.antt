@@ -13,16 +13,6 @@ use Rattle.text.specs.Escaping.{escaped_bytes, percent, is_plain, digit, escaped
 
 -- ---- a byte as it is shown
 
-module _ (b : ℕ) {m : List ℕ} {at : ℕ} {m' : List ℕ} {r : ℕ} where
-  pub byte-plain : is_plain b ≡ true → Appends (b ∷ []) m at m' r → Appends (escaped_byte b) m at m' r
-  unfolding escaped_byte
-  byte-plain e A = rw e A
-
-  pub byte-escaped : {h l : ℕ} → is_plain b ≡ false → h ≡ digit (b / 16) → l ≡ digit (b % 16) → Appends (percent ∷ h ∷ l ∷ []) m at m' r
-      → Appends (escaped_byte b) m at m' r
-  unfolding escaped_byte
-  byte-escaped e high low A = rw (e, sym high, sym low) A
-
 byte-long : (b : ℕ) → length (escaped_byte b) ≤ escaped_bytes
 unfolding escaped_byte
 byte-long b = by (is_plain b)

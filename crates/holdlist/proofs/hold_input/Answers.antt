@@ -11,9 +11,6 @@ use Rattle.holdlist.proofs.hold_input.Goals.{else-loop-test, then-loop-test+then
 pub loop-init : goal.loop-init
 loop-init g c = part-start _ _ c.requires
 
-pub read_after-requires : goal.read_after-requires
-read_after-requires g c = c.loop.invariant.buffered.inside
-
 pub returns-in_err-more : goal.returns-in_err-more
 returns-in_err-more g c =
     let p = err_from_is_err_and c.from_residual.result c.from_residual.ensures.1 in

@@ -1,10 +1,7 @@
 -- `hold_next` meets its contract: the words that were taken decide what the record is, and the record takes its own.
-use Prim.Native.Nat.{◌*◌}
 use mathlib.Core.Path.{sym}
-use native.Mathlib.Omega.{arith}
 use lib.Seq.{length-take-le}
-use Rattle.input.proofs.WordLaws.{words_left}
-use Rattle.holdlist.specs.Holding.{record_space, standing}
+use Rattle.holdlist.specs.Holding.{standing}
 use Rattle.holdlist.proofs.HoldingLaws.{words_inside, next-record, holds-malformed}
 use Rattle.holdlist.proofs.reading.hold_next.Goals as goal
 
@@ -21,12 +18,6 @@ slice_bounds-words-end-in-Some c = (next-record (standing c.args.mem.now c.args.
 
 pub slice_bounds-hold_record-end : goal.slice_bounds-hold_record-end
 slice_bounds-hold_record-end c = sym (length-take-le _ _ (next-record (standing c.args.mem.now c.args.held) c.args.bytes.now c.take_words-count.ensures c.read_record.ensures c.in-Some.is).few)
-
-pub hold_record-requires : goal.hold_record-requires
-hold_record-requires c =
-    let next = next-record (standing c.args.mem.now c.args.held) c.args.bytes.now c.take_words-count.ensures c.read_record.ensures c.in-Some.is in
-    let left = words_left c.args.bytes.now (4 * c.args.held.words) record_space c.take_words-count.ensures c.requires in
-    omega (arith, length-take-le _ _ next.few, next.inside)
 
 pub returns-in-Some : goal.returns-in-Some
 returns-in-Some c =

@@ -23,7 +23,7 @@ use Rattle.input.specs.Words.{words_of}
 use Rattle.text.specs.Text.{text, newline, decimal_by}
 use Rattle.text.specs.Escaping.{is_plain, escaped_byte, escaped}
 use Rattle.holdlist.specs.Holding.{stop, after_arrival, after_record, after_next, held_from, unnumbered, held}
-use Rattle.holdlist.specs.Lines.{header, entry_line, entry_lines, stopped_line, listing}
+use Rattle.holdlist.specs.Lines.{header, entry_line, entry_lines, stopped_line, listing_of, listing}
 
 -- what is printed of some input
 printed : List ℕ → List ℕ
@@ -73,5 +73,5 @@ unfolding printed two-changes ninety-owed word-left board-swap no-run
     conflict standby_in well_formed higher met applied in_run moved taken arrival owed_of
     is_plain escaped_byte escaped
     words_of stop after_arrival after_record after_next held_from
-    decimal_by header entry_line entry_lines stopped_line listing
+    decimal_by header entry_line entry_lines stopped_line listing_of
 examples = (refl, refl, refl, refl, refl)

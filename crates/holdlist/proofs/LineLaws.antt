@@ -1,17 +1,15 @@
 -- Laws of the lines: how long each is, and the loop over the entries.
 use Prim.Native.Nat.{ℕ, ◌+◌, ◌*◌, ◌≤◌}
-use mathlib.Core.Path.{◌≡◌, refl, sym, ap, ◌∙◌}
+use mathlib.Core.Path.{◌≡◌, refl, sym, ◌∙◌}
 use mathlib.Core.List.{List, [], ◌∷◌, ◌++◌, append-nil, append_assoc}
-use mathlib.Core.Bool.{Bool, true, false, cond}
+use mathlib.Core.Bool.{true, false}
 use native.Mathlib.Omega.{arith}
 use lib.ListN.{length, length-append}
 use Rattle.paths.specs.Copying.{Appends}
 use Rattle.table.specs.Entries.{Entry}
-use Rattle.table.specs.Tables.{Table, path_bytes}
-use Rattle.table.specs.Memory.{table_of, holds}
+use Rattle.table.specs.Tables.{Table, path_bytes, is_table}
 use Rattle.table.proofs.Overwrites.{appends-none, appends-as}
 use Rattle.table.proofs.TableLaws.{valid-parts}
-use Rattle.table.proofs.Puts.{valid-of}
 use Rattle.standby.specs.declared.Numbers.{Numbers}
 use Rattle.standby.specs.Owing.{owed_of}
 use Rattle.text.specs.Text.{newline, labelled, kind_letter}
@@ -19,7 +17,6 @@ use Rattle.text.specs.Escaping.{escaped_bytes, escaped}
 use Rattle.text.proofs.EscapeLaws.{escaped-long}
 use Rattle.text.proofs.DecimalLaws.{decimal-few}
 use Rattle.text.proofs.PieceLaws.{then}
-use Rattle.holdlist.specs.Holding.{Standing}
 use Rattle.holdlist.specs.Lines.{
   header_bytes,
   header,
@@ -29,7 +26,7 @@ use Rattle.holdlist.specs.Lines.{
   entries_bytes,
   stopped_bytes,
   stopped_line,
-  listing,
+  listing_of,
 }
 
 -- ---- the header
@@ -128,23 +125,19 @@ lines_long [] = omega arith
 lines_long (e ∷ es) = omega (arith, length-append (entry_line e) (entry_lines es), entry-long e, lines_long es)
 
 -- the limits of a table
-module _ (mem : List ℕ) (h : holds mem ≡ true) where
-  pub entries-room : escaped_bytes * path_bytes (table_of mem).entries + line_bytes * length (table_of mem).entries ≤ entries_bytes
-  entries-room = let limits = valid-parts (table_of mem) (valid-of mem h) in omega (arith, limits.few, limits.bytes)
+module _ (t : Table) (valid : is_table t ≡ true) where
+  pub entries-room : escaped_bytes * path_bytes t.entries + line_bytes * length t.entries ≤ entries_bytes
+  entries-room = let limits = valid-parts t valid in omega (arith, limits.few, limits.bytes)
 
-  pub entries-end : {m : List ℕ} {at : ℕ} {m' : List ℕ} {r : ℕ} → Appends (entry_lines (table_of mem).entries) m at m' r → r ≤ at + entries_bytes
-  entries-end A = omega (arith, A.end, entries-room, lines_long (table_of mem).entries)
+  pub entries-end : {m : List ℕ} {at : ℕ} {m' : List ℕ} {r : ℕ} → Appends (entry_lines t.entries) m at m' r → r ≤ at + entries_bytes
+  entries-end A = omega (arith, A.end, entries-room, lines_long t.entries)
 
-listing-by : (s : Standing) (b : Bool) → s.stopped ≡ b
-    → header (table_of s.memory) s.numbers ++ entry_lines (table_of s.memory).entries ++ cond b (stopped_line s.words) [] ≡ listing s
-unfolding listing
-listing-by s b e =
-    ap (λ (d : Bool). header (table_of s.memory) s.numbers ++ entry_lines (table_of s.memory).entries ++ cond d (stopped_line s.words) []) (sym e)
+module _ (t : Table) (s : Numbers) (words : ℕ) {m m₁ m₂ : List ℕ} {n₁ n₂ : ℕ} (h : n₁ ≤ length m) (a : Appends (header t s) m 0 m₁ n₁)
+    (b : Appends (entry_lines t.entries) m₁ n₁ m₂ n₂) where
+  pub listing-whole : Appends (listing_of t s words false) m 0 m₂ n₂
+  unfolding listing_of
+  listing-whole = appends-as (sym (append-nil _)) (then h a b)
 
-module _ (s : Standing) {m m₁ m₂ : List ℕ} {n₁ n₂ : ℕ} (h : n₁ ≤ length m)
-    (a : Appends (header (table_of s.memory) s.numbers) m 0 m₁ n₁) (b : Appends (entry_lines (table_of s.memory).entries) m₁ n₁ m₂ n₂) where
-  pub listing-whole : s.stopped ≡ false → Appends (listing s) m 0 m₂ n₂
-  listing-whole e = appends-as (sym (append-nil _) ∙ listing-by s false e) (then h a b)
-
-  pub listing-stopped : {m₃ : List ℕ} {r : ℕ} → s.stopped ≡ true → n₂ ≤ length m → Appends (stopped_line s.words) m₂ n₂ m₃ r → Appends (listing s) m 0 m₃ r
-  listing-stopped e l c = appends-as (listing-by s true e) (then l (then h a b) c)
+  pub listing-stopped : {m₃ : List ℕ} {r : ℕ} → n₂ ≤ length m → Appends (stopped_line words) m₂ n₂ m₃ r → Appends (listing_of t s words true) m 0 m₃ r
+  unfolding listing_of
+  listing-stopped l c = then l (then h a b) c

@@ -1,6 +1,6 @@
 -- What holdlist prints. Scope, "Handover, at the top": the header gives the entry count, n, how much is owed, switches and marks, in decimal;
 -- then one line for each entry, kind and path; and `stopped at word W` where reading ended early.
-use Rattle.std.specs.Prelude.{ℕ, ◌+◌, ◌*◌, List, [], ◌∷◌, ◌++◌, cond, length}
+use Rattle.std.specs.Prelude.{ℕ, ◌+◌, ◌*◌, List, [], ◌∷◌, ◌++◌, Bool, cond, length}
 use Rattle.table.specs.Entries.{Entry}
 use Rattle.table.specs.Tables.{Table, max_entries, max_path_bytes}
 use Rattle.table.specs.Memory.{table_of}
@@ -27,10 +27,13 @@ entry_lines (e ∷ es) = entry_line e ++ entry_lines es
 unfoldable pub stopped_line : ℕ → List ℕ
 stopped_line w = labelled "stopped at word " w ++ newline
 
+-- all that is printed of a table and a standby's numbers, and after how many words reading stopped, if it did
+unfoldable pub listing_of : Table → Numbers → ℕ → Bool → List ℕ
+listing_of t n words stopped = header t n ++ entry_lines t.entries ++ cond stopped (stopped_line words) []
+
 -- all that is printed of what was held
-unfoldable pub listing : Standing → List ℕ
-listing s =
-    header (table_of s.memory) s.numbers ++ entry_lines (table_of s.memory).entries ++ cond s.stopped (stopped_line s.words) []
+abbrev pub listing : Standing → List ℕ
+listing s = listing_of (table_of s.memory) s.numbers s.words s.stopped
 
 -- ---- room
 

@@ -16,6 +16,7 @@ use std::io;
 use std::io::{Read, Write};
 use table::TABLE_BYTES;
 use table::acting::make_fresh;
+use table::held::Table;
 
 mod printing;
 mod reading;
@@ -76,7 +77,7 @@ fn main(rt: HostRuntime) {
         }
         Ok(held) => {
             let mut space = [0u8; LISTING_BYTES];
-            let n = write_listing(&mut space, &mem, held);
+            let n = write_listing(&mut space, &Table::of(&mem), held);
             if rt.stdout().write_all(&space[..n]).is_err() {
                 let _ = eprintln!(rt; "holdlist: standard output cannot be written");
             }

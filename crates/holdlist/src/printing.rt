@@ -2,18 +2,16 @@
 ghost use Rattle.std.specs.Prelude.{◌≡◌, true, false, ◌+◌, ◌*◌, ◌≤◌, length};
 ghost use Rattle.paths.specs.Copying.{Appends};
 ghost use Rattle.table.specs.Tables.{path_bytes};
-ghost use Rattle.table.specs.Memory.{holds};
 ghost use Rattle.table.specs.Held.{entry_of};
 ghost use Rattle.standby.specs.Arriving.{conflict};
 ghost use Rattle.text.specs.Escaping.{escaped_bytes};
-ghost use Rattle.holdlist.specs.Holding.{standing};
-ghost use Rattle.holdlist.specs.Lines.{header_bytes, header, line_bytes, entry_line, entry_lines, stopped_bytes, stopped_line, listing, listing_bytes};
+ghost use Rattle.holdlist.specs.Lines.{header_bytes, header, line_bytes, entry_line, entry_lines, stopped_bytes, stopped_line, listing_of, listing_bytes};
 
 use crate::Held;
 use paths::copying::append;
 use standby::Numbers;
 use standby::owing::owed;
-use table::held::{Entry, Table};
+use table::held::{Entries, Entry, Table};
 use table::{MAX_ENTRIES, MAX_PATH_BYTES};
 use text::decimals::append_labelled;
 use text::escaping::escape;
@@ -54,13 +52,13 @@ fn append_entry(space: &mut [u8], at: usize, entry: Entry) -> usize
     append(space, end, b"\n")
 }
 
-// Writes a line for each entry of a table, in list order.
-fn append_entries(space: &mut [u8], at: usize, table: &Table) -> usize
-    requires { at + escaped_bytes * path_bytes table.now.entries + line_bytes * length table.now.entries ≤ length space.old }
-    ensures { Appends (entry_lines table.now.entries) space.old at space.new result }
+// Writes a line for each entry, in list order.
+fn append_entries(space: &mut [u8], at: usize, entries: Entries) -> usize
+    requires { at + escaped_bytes * path_bytes entries + line_bytes * length entries ≤ length space.old }
+    ensures { Appends (entry_lines entries.entry) space.old at space.new result }
 {
     let mut end = at;
-    for entry in table.entries() {
+    for entry in entries {
         end = append_entry(space, end, entry);
     }
     end
@@ -76,13 +74,13 @@ fn append_stopped(space: &mut [u8], at: usize, words: usize) -> usize
 }
 
 // Writes all that is printed from the space's start, and says how many bytes that is.
-pub fn write_listing(space: &mut [u8], mem: &[u8], held: Held) -> usize
-    requires { (holds mem.now ≡ true) × (conflict held.numbers ≡ false) × (listing_bytes ≤ length space.old) }
-    ensures { Appends (listing (standing mem.now held)) space.old 0 space.new result }
+pub fn write_listing(space: &mut [u8], table: &Table, held: Held) -> usize
+    requires { (conflict held.numbers ≡ false) × (listing_bytes ≤ length space.old) }
+    ensures { Appends (listing_of table.now held.numbers held.words held.stopped) space.old 0 space.new result }
 {
-    let table = Table::of(mem);
-    let from = write_header(space, &table, held.numbers);
-    let end = append_entries(space, from, &table);
+    let entries = table.entries();
+    let from = write_header(space, table, held.numbers);
+    let end = append_entries(space, from, entries);
     if held.stopped {
         append_stopped(space, end, held.words)
     } else {

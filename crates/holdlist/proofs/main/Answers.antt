@@ -7,10 +7,13 @@ use Rattle.standby.proofs.ArrivingLaws.{no-conflict}
 use Rattle.holdlist.proofs.KeepLaws.{input-kept}
 use Rattle.holdlist.proofs.main.Goals as goal
 
+pub of-requires : goal.of-requires
+of-requires c = (input-kept (omega arith) c.make_fresh.ensures c.hold_input.ensures c.in-Ok.is).holding
+
 pub write_listing-n-requires : goal.write_listing-n-requires
 write_listing-n-requires c =
     let kept = input-kept (omega arith) c.make_fresh.ensures c.hold_input.ensures c.in-Ok.is in
-    (kept.holding, no-conflict _ kept.agreeing, omega arith)
+    (no-conflict _ kept.agreeing, omega arith)
 
 pub slice_bounds-space-end : goal.slice_bounds-space-end
 slice_bounds-space-end c = starts-inside c.write_listing-n.ensures

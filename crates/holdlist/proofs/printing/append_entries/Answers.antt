@@ -1,10 +1,9 @@
-use mathlib.Core.Path.{◌∙◌}
 use Rattle.holdlist.proofs.LineLaws.{lining-start, lining-room, lining-next, lining-end}
 use Rattle.holdlist.proofs.printing.append_entries.Goals as goal
 
 pub loop-entry-init : goal.loop-entry-init
 loop-entry-init c =
-    lining-start _ _ _ (c.into_iter-entry-iterator.ensures.into_iter_gives ∙ c.entries-entry-items.ensures.list) c.requires
+    lining-start _ _ _ c.into_iter-entry-iterator.ensures.into_iter_gives c.requires
 
 pub append_entry-end-requires : goal.append_entry-end-requires
 append_entry-end-requires c = lining-room c.loop-entry.invariant c.in-Some.ensures.steps

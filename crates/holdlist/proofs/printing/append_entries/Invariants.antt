@@ -3,4 +3,4 @@ use Rattle.holdlist.proofs.LineLaws.{Lining}
 use Rattle.holdlist.proofs.printing.append_entries.Given as goal
 
 abbrev pub invariant-loop-entry : goal.invariant-loop-entry
-invariant-loop-entry l = Lining l.table.entries l.initial.space l.at l.space l.end l.entry-iterator
+invariant-loop-entry l = Lining l.fn.entries l.initial.space l.at l.space l.end l.entry-iterator

@@ -81,6 +81,7 @@ first-decides ws ws' s same = go (read_first ws) refl (read_first ws') refl
 
 -- what taking the first `end` of the words comes to
 pub record NextRecord (s : Standing) (bytes words : List ℕ) (count end : ℕ) : Type 0 where
+  pub inside : end ≤ count
   pub few : end ≤ length words
   pub after : after_next s bytes ≡ after_arrival (arrival s.memory (take end words) s.numbers) (length (take end words)) s
 
@@ -120,7 +121,7 @@ module _ (s : Standing) (bytes : List ℕ) {space words : List ℕ} {count : ℕ
             let i : read.end ≡ 0 + length c = ap end_of g in
             let few : read.end ≤ count = omega (arith, sym (length-take-le count words words_inside) ∙ ap length there ∙ length-append c d.rest) in
             let whole : take read.end words ≡ c = sym (take-take read.end count words few) ∙ ap (take read.end) there ∙ take_at c d.rest read.end (omega arith) in
-            record { few = omega (arith, words_inside); after = next-by ∙ rw (f, whole) }
+            record { inside = few; few = omega (arith, words_inside); after = next-by ∙ rw (f, whole) }
 
 -- reading stops where it is
 pub holds-malformed : (held : Held) (bytes : List ℕ) {m space words : List ℕ} {count : ℕ} {room after : List ℕ} {r : Option Record} {q : Held}

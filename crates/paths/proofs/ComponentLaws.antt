@@ -45,6 +45,11 @@ pub data Unslashed : List ℕ → Type 0 where
   none : Unslashed []
   more : {b : ℕ} {c : List ℕ} → (b ≡ slash → ⊥) → Unslashed c → Unslashed (b ∷ c)
 
+-- one more byte, no slash
+pub unslashed-snoc : {c : List ℕ} (b : ℕ) → Unslashed c → (b ≡ slash → ⊥) → Unslashed (c ++ b ∷ [])
+unslashed-snoc b none h = more h none
+unslashed-snoc b (more k u) h = more k (unslashed-snoc b u h)
+
 pub data Each (P : List ℕ → Type 0) : List (List ℕ) → Type 0 where
   nil : Each P []
   cons : {c : List ℕ} {cs : List (List ℕ)} → P c → Each P cs → Each P (c ∷ cs)
@@ -79,6 +84,18 @@ pub pieces-component : {c : List ℕ} (cs : List (List ℕ)) → Unslashed c →
 unfolding grown
 pieces-component cs none e = e
 pieces-component cs (more {b = b} {c = c} h u) e = pieces-byte b (c ++ slashed cs) h ∙ ap (grown b) (pieces-component cs u e)
+
+-- a component that a slash ends
+pub pieces-until : {c : List ℕ} (r : List ℕ) → Unslashed c → pieces (c ++ slash ∷ r) ≡ c ∷ pieces r
+unfolding grown
+pieces-until r none = pieces-slash r
+pieces-until r (more {b = b} {c = c} h u) = pieces-byte b (c ++ slash ∷ r) h ∙ ap (grown b) (pieces-until r u)
+
+-- the last component
+pub pieces-last : {c : List ℕ} → Unslashed c → pieces c ≡ c ∷ []
+unfolding grown pieces
+pieces-last none = refl
+pieces-last (more {b = b} {c = c} h u) = pieces-byte b c h ∙ ap (grown b) (pieces-last u)
 
 -- slashes part what they join
 pub pieces-slashed : {cs : List (List ℕ)} → Each Unslashed cs → pieces (slashed cs) ≡ [] ∷ cs

@@ -295,3 +295,12 @@ module _ (p q : List ℕ) {r : Comparison} (e : r ≡ comparison p q) where
       go Greater k = sym (compared-said e k).prefix
 
 pub ruleset prefixes = (prefix-found, no-prefix-found)
+
+module _ (p q : List ℕ) where
+  -- equal is said of the same components
+  pub equal-components : relation p q ≡ Equal → components p ≡ components q
+  equal-components e = let s = relation-said p q Equal e in prefix-components p q s.prefix s.extension
+
+  pub components-equal : components p ≡ components q → relation p q ≡ Equal
+  unfolding relation related_by
+  components-equal e = rw (prefix-leads p q, prefix-leads q p, e, leads-refl (components q))

@@ -1,11 +1,12 @@
--- Laws of scanning: components as `split` gives them, names, and resolved form by names.
+-- Laws of scanning: components as `split` gives them, a test of them from the left on, names, and resolved form by names.
 use Prim.Native.Nat.{ℕ, suc, ◌+◌, ◌-◌, ◌≤◌, ◌<◌}
 use mathlib.Core.Path.{◌≡◌, refl, sym, ap, ◌∙◌}
-use mathlib.Core.List.{List, [], ◌∷◌, tail-eq_of_cons-eq, nil≢cons}
+use mathlib.Core.List.{List, [], ◌∷◌, ◌++◌, tail-eq_of_cons-eq, nil≢cons}
 use mathlib.Core.Bool.{Bool, true, false, ◌&&◌, not, cond, false≢true}
 use native.Mathlib.Omega.{arith}
-use lib.ListN.{length, get_or, take, drop}
-use lib.Seq.{take_all}
+use native.Mathlib.Numerals.{add-one}
+use lib.ListN.{length, get_or, take, drop, length-drop, take-append-drop}
+use lib.Seq.{take-suc, drop-cons, drop-drop, get_or-drop, take_all}
 use lib.Dec.{eqb}
 use Rattle.std.specs.List.{slice_split, onto_first, list_all}
 use borrow.Author.Count.{below_more}
@@ -13,7 +14,7 @@ use borrow.Author.Tests.{ne_eqb, eq-eqb, eqb-true, eqb-false}
 use Rattle.paths.specs.Components.{slash, dot, same, grown, parted, pieces, slashed, spell}
 use Rattle.paths.specs.Resolving.{is_absolute, is_name, entered, enter_all, normalize, is_resolved}
 use Rattle.paths.specs.Scanning.{all_names, plain_pair, PlainBelow, plain_at, plain_eight}
-use Rattle.paths.proofs.ComponentLaws.{and_left, and_right, and_both, Unslashed, Each, nil, cons, pieces-slash, pieces-byte, pieces-unslashed, pieces-slashed, slashed-pieces}
+use Rattle.paths.proofs.ComponentLaws.{and_left, and_right, and_both, Unslashed, none, unslashed-snoc, Each, nil, cons, pieces-slash, pieces-byte, pieces-until, pieces-last, pieces-unslashed, pieces-slashed, slashed-pieces}
 use Rattle.paths.proofs.ResolvingLaws.{Name, Spelled, resolved-spelled, spelled-resolved, resolved-absolute}
 
 -- ---- slashes part a path as std's `split` does
@@ -89,6 +90,82 @@ all_names-each : (cs : List (List ℕ)) → all_names cs ≡ true → Each Name 
 unfolding all_names
 all_names-each [] e = nil
 all_names-each (c ∷ cs) e = cons (and_left (is_name c) _ e) (all_names-each cs (and_right (is_name c) _ e))
+
+-- ---- components from the left on
+
+-- at i the component that begins at `from` has not ended: no slash came in it yet
+pub record Open (p : List ℕ) (from i : ℕ) : Type 0 where
+  pub low : from ≤ i
+  pub clean : Unslashed (take (i - from) (drop from p))
+
+pub open-start : (p : List ℕ) → Open p 0 0
+open-start p = record { low = omega arith; clean = none }
+
+-- after a slash the next one begins
+pub open-next : (p : List ℕ) (i : ℕ) → Open p (i + 1) (i + 1)
+open-next p i = let z : i + 1 - (i + 1) ≡ 0 = omega arith in record { low = omega arith; clean = rw z none }
+
+module _ {p : List ℕ} {from i : ℕ} (s : Open p from i) where
+  -- no slash: the component goes on
+  pub open-byte : i < length p → (get_or p i 0 ≡ slash → ⊥) → Open p from (i + 1)
+  open-byte h k =
+      let e : i + 1 - from ≡ suc (i - from) = omega (arith, s.low) in
+      let j : from + (i - from) ≡ i = omega (arith, s.low) in
+      let l : i - from < length (drop from p) = omega (arith, length-drop from p, s.low) in
+      record {
+        low = omega (arith, s.low);
+        clean = rw (e, take-suc (drop from p) (i - from) 0 l, get_or-drop from p (i - from) 0, j) (unslashed-snoc (get_or p i 0) s.clean k);
+      }
+
+  -- a slash ends it, and the others are those after the slash
+  pub open-parts : i < length p → get_or p i 0 ≡ slash → pieces (drop from p) ≡ take (i - from) (drop from p) ∷ pieces (drop (i + 1) p)
+  open-parts h k =
+      let j : from + (i - from) ≡ i = omega (arith, s.low) in
+      let e : drop (i - from) (drop from p) ≡ slash ∷ drop (i + 1) p = rw (drop-drop, j, add-one i, drop-cons p i 0 h, k) in
+      ap pieces (sym (take-append-drop (i - from) (drop from p)) ∙ ap (λ (l : List ℕ). take (i - from) (drop from p) ++ l) e)
+      ∙ pieces-until (drop (i + 1) p) s.clean
+
+  -- at the path's end it is the last
+  pub open-last : i ≡ length p → pieces (drop from p) ≡ take (length p - from) (drop from p) ∷ []
+  open-last h = pieces-open h ∙ ap (λ (c : List ℕ). c ∷ []) (sym (whole h))
+    where
+      whole : i ≡ length p → take (length p - from) (drop from p) ≡ drop from p
+      whole h = take_all (length p - from) (drop from p) (omega (arith, length-drop from p))
+
+      pieces-open : i ≡ length p → pieces (drop from p) ≡ drop from p ∷ []
+      pieces-open h = pieces-last (rw (h, whole h) at s.clean)
+
+-- ---- a test of each
+
+-- at i no component that ended was refused
+pub record Testing (p : List ℕ) (from i : ℕ) : Type 0 where
+  pub present : Open p from i
+  pub names : all_names (pieces p) ≡ all_names (pieces (drop from p))
+
+pub testing-start : (p : List ℕ) → Testing p 0 0
+testing-start p = record { present = open-start p; names = refl }
+
+and-true : (t : Bool) → t && true ≡ t
+and-true true = refl
+and-true false = refl
+
+module _ (p : List ℕ) (from i : ℕ) (s : Testing p from i) where
+  pub testing-byte : i < length p → (get_or p i 0 ≡ slash → ⊥) → Testing p from (i + 1)
+  testing-byte h k = record { present = open-byte s.present h k; names = s.names }
+
+  pub testing-name : i < length p → get_or p i 0 ≡ slash → is_name (take (i - from) (drop from p)) ≡ true → Testing p (i + 1) (i + 1)
+  unfolding all_names
+  testing-name h k e = record { present = open-next p i; names = s.names ∙ rw (open-parts s.present h k, e) }
+
+  pub testing-refused : i < length p → get_or p i 0 ≡ slash → is_name (take (i - from) (drop from p)) ≡ false → all_names (pieces p) ≡ false
+  unfolding all_names
+  testing-refused h k e = s.names ∙ rw (open-parts s.present h k, e)
+
+  pub testing-end : i ≡ length p → is_name (take (length p - from) (drop from p)) ≡ all_names (pieces p)
+  unfolding all_names
+  testing-end h = sym (s.names ∙ ap all_names (open-last s.present h) ∙ and-true (is_name (take (length p - from) (drop from p))))
+
+pub ruleset testing = (testing-byte, testing-name, testing-refused, testing-end)
 
 -- ---- resolved form by names
 

@@ -7,7 +7,10 @@ pub fn copy_in(mem: &mut [u8], at: usize, src: &[u8])
     requires { at + length src.now ≤ length mem.old }
     ensures { mem.new ≡ overwrite mem.old at src.now }
 {
-    mem[at..at + src.len()].copy_from_slice(src);
+    // no `copy_from_slice`: it calls memmove, which the library would need from C besides memcpy and memset
+    for i in 0..src.len() {
+        mem[at + i] = src[i];
+    }
 }
 
 // Writes a piece into the space from an offset on, and says where it ends. Here and above the offset stands beside lent space, which is fixed memory and has

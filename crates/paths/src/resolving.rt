@@ -15,14 +15,25 @@ use refusals::Refusal;
 fn is_name(c: &[u8]) -> bool
     ensures { result ≡ is_name c.now }
 {
-    !matches!(c, b"" | b"." | b"..")
+    c.len() > 2 || !matches!(c, b"" | b"." | b"..")
 }
 
 // Whether every component is a name.
+#[tactic(auto, using(crate::proofs::Scanning::testing))]
 fn all_names(p: &[u8]) -> bool
     ensures { result ≡ all_names (pieces p.now) }
 {
-    p.split(|b| *b == b'/').all(is_name)
+    let mut from = 0;
+    // no `split`: it costs more for each component, and the memory test runs this over each path with a dot in front of a name
+    for (i, b) in p.iter().enumerate() {
+        if *b == b'/' {
+            if !is_name(&p[from..i]) {
+                return false;
+            }
+            from = i + 1;
+        }
+    }
+    is_name(&p[from..])
 }
 
 // Whether a is no slash, or one behind which neither a slash nor a dot stands.
@@ -46,7 +57,13 @@ fn plain_eight(p: &[u8], at: usize) -> bool
 fn plain_bytes(p: &[u8]) -> bool
     ensures { result ≡ true → PlainBelow p.now (length p.now - 1) }
 {
-    p.windows(2).all(|w| plain_pair(w[0], w[1]))
+    // no `windows`: it costs more for each byte
+    for k in 1..p.len() {
+        if !plain_pair(p[k - 1], p[k]) {
+            return false;
+        }
+    }
+    true
 }
 
 // Whether a quick test finds p in resolved form: no component behind the first slash is empty or begins with a dot.
@@ -118,10 +135,15 @@ fn enter_all(work: &mut [u8], len: usize, src: &[u8]) -> usize
     ensures { Begins work.new result (len + length src.now + 1) (enter_all_bytes (take len work.old) (pieces src.now)) }
 {
     let mut n = len;
-    for c in src.split(|b| *b == b'/') {
-        n = enter(work, n, c);
+    let mut from = 0;
+    // no `split`, as in `all_names`
+    for (i, b) in src.iter().enumerate() {
+        if *b == b'/' {
+            n = enter(work, n, &src[from..i]);
+            from = i + 1;
+        }
     }
-    n
+    enter(work, n, &src[from..])
 }
 
 // Whether a path begins with a slash.

@@ -150,7 +150,7 @@ pub fn read_record(words: &[u32], from: usize, space: &mut [u8; MAX_PATH]) -> Op
         }
         0x15 => (Action::SetSwitches(switches_of(front.next)?), 0, front.at),
         0x17 => (Action::RevokeAll, 0, from + 2),
-        _ => return None,
+        0..=0x10 | 0x18..=0xFF => return None,
     };
     Some(Record {
         run,

@@ -1,7 +1,7 @@
 -- Laws of the comparison of two entries.
 use Prim.Native.Nat.{ℕ, zero, suc, ◌^◌, ◌<◌}
 use mathlib.Core.Path.{◌≡◌, refl, sym}
-use mathlib.Core.List.{List}
+use mathlib.Core.List.{List, [], ◌∷◌}
 use mathlib.Core.Bool.{Bool, true, false, ◌&&◌, not, cond}
 use lib.IntN.{ℤ, pos, negsuc, neg_ℤ}
 use lib.Dec.{eqb, ltb}
@@ -13,11 +13,12 @@ use denote.Enum.Bare.{sameb}
 use Rattle.std.specs.declared.cmp.Ordering.{Ordering}
 use Rattle.std.specs.declared.cmp.Ordering.TheVariants.{Less, Equal, Greater}
 use Rattle.std.specs.Ordering.{nat_cmp, ordering_reverse}
+use Rattle.paths.specs.Components.{components}
 use Rattle.paths.specs.contracts.Relation.{the_type}
 use Rattle.paths.specs.declared.Comparison.{Comparison}
 use Rattle.paths.specs.declared.Relation.{Relation}
 use Rattle.paths.specs.declared.Relation.TheVariants as relation
-use Rattle.paths.specs.Relations.{is_prefix, number_order, less, equal, greater, relation, comparison}
+use Rattle.paths.specs.Relations.{is_prefix, path_order, number_order, or_else, in_turn, less, equal, greater, relation, comparison}
 use Rattle.paths.proofs.RelationLaws.{number_order-turned, path_order-turned, Said, says_prefix, says_order, turned, relation-said, compared-said}
 use Rattle.table.specs.Entries.{Entry, is_granted, kind_precedence, same_path, strictly_extends, compare_alike, granted_order, compare, order_number}
 
@@ -108,6 +109,79 @@ pub compare-by : (old new : Entry) {a b : Bool} → is_granted old.kind ≡ a �
     ≡ cond a (cond b (compare_alike old new) (granted_order old.path new.path)) (cond b (neg_ℤ (granted_order new.path old.path)) (compare_alike old new))
 unfolding compare
 compare-by old new p q = rw (p, q)
+
+-- ---- the sign
+
+pub data Sign : ℤ → Type 0 where
+  minus : Sign (negsuc 0)
+  none : Sign (pos 0)
+  plus : Sign (pos 1)
+
+-- a grant with an entry of another kind is never equal
+less-or-greater : (t : Bool) → Sign (cond t less greater)
+less-or-greater true = minus
+less-or-greater false = plus
+
+pub granted-sign : (p q : List ℕ) → Sign (granted_order p q)
+unfolding granted_order
+granted-sign p q = less-or-greater (strictly_extends p q)
+
+number_by : (below same : Bool) → Sign (cond below less (cond same equal greater))
+number_by true same = minus
+number_by false true = none
+number_by false false = plus
+
+number-sign : (a b : ℕ) → Sign (number_order a b)
+unfolding number_order
+number-sign a b = number_by (ltb a b) (eqb a b)
+
+or-sign : {x y : ℤ} → Sign x → Sign y → Sign (or_else x y)
+unfolding or_else
+or-sign minus s = minus
+or-sign none s = s
+or-sign plus s = plus
+
+turn-sign : {A : Type 0} (order : A → A → ℤ) → ((x y : A) → Sign (order x y)) → (xs ys : List A) → Sign (in_turn order xs ys)
+unfolding in_turn
+turn-sign order h [] [] = none
+turn-sign order h [] (y ∷ ys) = minus
+turn-sign order h (x ∷ xs) [] = plus
+turn-sign order h (x ∷ xs) (y ∷ ys) = or-sign (h x y) (turn-sign order h xs ys)
+
+path-sign : (p q : List ℕ) → Sign (path_order p q)
+unfolding path_order
+path-sign p q = turn-sign (in_turn number_order) (turn-sign number_order number-sign) (components p) (components q)
+
+alike-sign-by : (same deeper higher : Bool) {n o : ℤ} → Sign n → Sign o → Sign (cond same n (cond deeper less (cond higher greater o)))
+alike-sign-by true deeper higher s t = s
+alike-sign-by false true higher s t = minus
+alike-sign-by false false true s t = plus
+alike-sign-by false false false s t = t
+
+alike-sign : (old new : Entry) → Sign (compare_alike old new)
+unfolding compare_alike
+alike-sign old new =
+    alike-sign-by (same_path old.path new.path) (strictly_extends old.path new.path) (strictly_extends new.path old.path)
+    (number-sign (kind_precedence old.kind) (kind_precedence new.kind)) (path-sign old.path new.path)
+
+negative-sign : {x : ℤ} → Sign x → Sign (neg_ℤ x)
+negative-sign minus = plus
+negative-sign none = none
+negative-sign plus = minus
+
+sign-by : (old new : Bool) {alike grant grant' : ℤ} → Sign alike → Sign grant → Sign grant'
+    → Sign (cond old (cond new alike grant) (cond new (neg_ℤ grant') alike))
+sign-by true true s t u = s
+sign-by true false s t u = t
+sign-by false true s t u = negative-sign u
+sign-by false false s t u = s
+
+-- the comparison is −1, 0 or 1
+pub compare_sign : (old new : Entry) → Sign (compare old new)
+unfolding compare
+compare_sign old new =
+    sign-by (is_granted old.kind) (is_granted new.kind) (alike-sign old new) (granted-sign old.path new.path)
+    (granted-sign new.path old.path)
 
 -- ---- signed numbers
 

@@ -6,12 +6,37 @@ ghost use Rattle.table.specs.Memory.{table_head, entry_head, word, head_bytes, e
 use crate::{ENTRY_HEAD, Kind, LENGTH_OFFSET, MARKS_AT, SWITCHES_AT};
 use paths::copying::copy_in;
 
-// Moves n bytes from an offset to another; the two runs of bytes may overlap.
+// Moves n bytes to a higher offset, the last byte first.
+fn move_up(mem: &mut [u8], from: usize, to: usize, n: usize)
+    requires { (from ≤ to) × (to + n ≤ length mem.old) }
+    ensures { mem.new ≡ overwrite mem.old to (take n (drop from mem.old)) }
+{
+    for i in (0..n).rev() {
+        mem[to + i] = mem[from + i];
+    }
+}
+
+// Moves n bytes to a lower offset, the first byte first.
+fn move_down(mem: &mut [u8], from: usize, to: usize, n: usize)
+    requires { (to ≤ from) × (from + n ≤ length mem.old) }
+    ensures { mem.new ≡ overwrite mem.old to (take n (drop from mem.old)) }
+{
+    for i in 0..n {
+        mem[to + i] = mem[from + i];
+    }
+}
+
+// Moves n bytes from an offset to another; the two runs of bytes may overlap. No `copy_within`: it calls memmove, which the library would need from C
+// besides memcpy and memset.
 pub fn move_bytes(mem: &mut [u8], from: usize, to: usize, n: usize)
     requires { (from + n ≤ length mem.old) × (to + n ≤ length mem.old) }
     ensures { mem.new ≡ overwrite mem.old to (take n (drop from mem.old)) }
 {
-    mem.copy_within(from..from + n, to);
+    if from < to {
+        move_up(mem, from, to, n);
+    } else {
+        move_down(mem, from, to, n);
+    }
 }
 
 // Writes a number into two bytes, high byte first.

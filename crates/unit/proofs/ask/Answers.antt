@@ -22,6 +22,6 @@ returns-in_err-known c =
 pub returns : goal.returns
 unfolding unit_call and_then state_after
 returns c =
-    let e = c.in_ok-found.ensures in
+    let d = c.in_ok-found.ensures in
     let f = c.in_ok-known.ensures in
-    record { answer = rw (← e, ← f, c.decide-decided.ensures); state = rw (← e, ← f, c.from-2.ensures, c.from.ensures, c.decide-decided.ensures) }
+    record { answer = rw (← d, ← f, c.decide-decided.ensures); state = rw (← d, ← f, c.from-2.ensures, c.from.ensures, c.decide-decided.ensures) }

@@ -44,5 +44,5 @@ returns-then-count-gt-MAX_ENTRIES c =
 pub returns : goal.returns
 unfolding is_number_word is_table_word
 returns c =
-    let F = fronted _ c.read_front-front.ensures c.in_ok-run.ensures c.in_ok-first.was c.in_ok-second.was in
-    rw c.from.ensures (image-taken F (grind (arith, nat_tests)) (omega arith) (sym c.if-not-are_entries.ensures))
+    let G = fronted _ c.read_front-front.ensures c.in_ok-run.ensures c.in_ok-first.was c.in_ok-second.was in
+    rw c.from.ensures (image-taken G (grind (arith, nat_tests)) (omega arith) (sym c.if-not-are_entries.ensures))

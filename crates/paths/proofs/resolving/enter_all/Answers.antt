@@ -1,27 +1,38 @@
--- `split` gives the components: at a turn one and those behind it, at the end none. Assumes nothing.
-use Rattle.std.proofs.Common.{rules, tests}
+-- At a slash one component is entered, at the end the last. Assumes nothing.
+use mathlib.Core.Path.{◌≡◌}
 use native.Mathlib.Omega.{arith}
-use Rattle.std.proofs.lemmas.List.{length_push}
-use Rattle.paths.proofs.Entering.{parts_turn, parts-end, entering-start, entering-room, entering-more, entering-end}
+use lib.ListN.{length}
+use Rattle.paths.proofs.Scanning.{open-start, open-byte, open-parts, open-next, open-last}
+use Rattle.paths.proofs.Entering.{entering-start, entering-room, entering-more, entering-end}
 use Rattle.paths.proofs.resolving.enter_all.Goals as goal
+use Rattle.paths.proofs.resolving.enter_all.Goals.{then-b-eq47, else-b-eq47}
 
-pub loop-c-init : goal.loop-c-init
-loop-c-init c = entering-start _ _ _
+pub loop-i-init : goal.loop-i-init
+loop-i-init c = (open-start _, entering-start _ _ _)
 
 pub enter-n-requires : goal.enter-n-requires
 enter-n-requires c =
-    let split = c.split-c-items.ensures in
-    let turn = parts_turn _ c.into_iter-c-iterator.ensures.into_iter_gives split.rest split.done split.closure c.loop-c.yielded _ c.loop-c.yielded_by _ _ c.in-Some.c c.in-Some.is c.next.ensures.steps (λ x b q k. search (rules, tests)) in
-    omega (arith, entering-room (rw turn at c.loop-c.invariant))
+    let at = c.loop-i.invariant in
+    omega (arith, c.loop-i.auto.work, entering-room (rw (open-parts at.0 c.loop-i-test.true c.if-b-eq47.true) at at.1), c.requires)
 
-pub loop-c-preserved : goal.loop-c-preserved
-loop-c-preserved c =
-    let split = c.split-c-items.ensures in
-    let turn = parts_turn _ c.into_iter-c-iterator.ensures.into_iter_gives split.rest split.done split.closure c.loop-c.yielded _ c.loop-c.yielded_by _ _ c.in-Some.c c.in-Some.is c.next.ensures.steps (λ x b q k. search (rules, tests)) in
-    rw length_push (entering-more (rw turn at c.loop-c.invariant) c.enter-n.auto.work c.enter-n.ensures)
+pub loop-i-preserved : goal.loop-i-preserved
+loop-i-preserved c =
+    let at = c.loop-i.invariant in
+    elim c.if-b-eq47.branch [
+      | then-b-eq47 w ↦
+          let more = entering-more (rw (open-parts at.0 c.loop-i-test.true w.if-b-eq47.true) at at.1) w.enter-n.auto.work w.enter-n.ensures in
+          rw (w.from-is, w.n-is, w.work-is) (open-next _ _, more)
+      | else-b-eq47 w ↦ rw (w.from-is, w.n-is, w.work-is) (open-byte at.0 c.loop-i-test.true w.if-b-eq47.false, at.1)
+    ]
+
+pub enter-requires : goal.enter-requires
+enter-requires c =
+    let at = c.loop-i.invariant in
+    let z : c.loop-i.i ≡ length c.args.src.now = omega arith in
+    omega (arith, c.loop-i.auto.work, entering-room (rw (open-last at.0 z) at at.1), c.requires)
 
 pub returns : goal.returns
 returns c =
-    let split = c.split-c-items.ensures in
-    let none = parts-end _ c.into_iter-c-iterator.ensures.into_iter_gives split.rest split.done split.closure c.loop-c.yielded _ c.loop-c.yielded_by _ _ c.in-None.is c.next.ensures.steps (λ x b q k. search (rules, tests)) in
-    entering-end (rw none at c.loop-c.invariant)
+    let at = c.loop-i.invariant in
+    let z : c.loop-i.i ≡ length c.args.src.now = omega arith in
+    entering-end (entering-more (rw (open-last at.0 z) at at.1) c.enter.auto.work c.enter.ensures)

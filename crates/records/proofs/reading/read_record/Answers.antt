@@ -44,13 +44,13 @@ returns-in-23 c =
     let H = front-headed _ _ c.read_front-front.ensures c.in_ok-run.ensures c.in_ok-head.was in
     rw c.from-number.ensures (headed-revoke-all H (λ z. omega arith) c.in-23.is)
 
-pub returns-in_default : goal.returns-in_default
-returns-in_default c =
+pub returns-in-0-to-16 : goal.returns-in-0-to-16
+returns-in-0-to-16 c =
     let H = front-headed _ _ c.read_front-front.ensures c.in_ok-run.ensures c.in_ok-head.was in
     headed-unknown H (λ l. omega arith)
 
-pub returns-in_default-2 : goal.returns-in_default-2
-returns-in_default-2 c =
+pub returns-in-0-to-16-2 : goal.returns-in-0-to-16-2
+returns-in-0-to-16-2 c =
     let H = front-headed _ _ c.read_front-front.ensures c.in_ok-run.ensures c.in_ok-head.was in
     headed-unknown H (λ l. omega arith)
 

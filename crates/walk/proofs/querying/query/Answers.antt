@@ -34,9 +34,5 @@ returns-in_err-n c =
 pub returns : goal.returns
 unfolding query_call and_then
 returns c =
-    rw (
-      sym c.in_ok-table.ensures,
-      sym c.in_ok-known.ensures,
-      (gives-stands c.resolve_given.ensures c.in_ok-n.was).query,
-      c.query_desc.ensures,
-    )
+    let t = sym c.in_ok-table.ensures in
+    rw (t, sym c.in_ok-known.ensures, (gives-stands c.resolve_given.ensures c.in_ok-n.was).query, c.query_desc.ensures)

@@ -36,7 +36,8 @@ fn pass_on(child: &mut [u8], state: PermissionState, d: Descriptor, q: &[u8]) ->
     carry_out(child, action, q)
 }
 
-// One item, as given with the working directory, or with no path; its record stands from `at` on.
+// One item, as given with the working directory, or with no path; its record stands from `at` on. Not inlined: an inherited child has no path on its stack.
+#[inline(never)]
 fn grant_item(
     parent: &mut [u8],
     child: &mut [u8],

@@ -18,7 +18,8 @@ fn is_name(c: &[u8]) -> bool
     c.len() > 2 || !matches!(c, b"" | b"." | b"..")
 }
 
-// Whether every component is a name.
+// Whether every component is a name. Not inlined: by itself the loop compiles to one instruction less for each byte.
+#[inline(never)]
 #[tactic(auto, using(crate::proofs::Scanning::testing))]
 fn all_names(p: &[u8]) -> bool
     ensures { result ≡ all_names (pieces p.now) }
@@ -129,7 +130,8 @@ fn enter(work: &mut [u8], len: usize, c: &[u8]) -> usize
     }
 }
 
-// Enters the components of a path.
+// Enters the components of a path. Inlined: in `resolve` the work area is known to lie apart from src, so that a name is copied by memcpy.
+#[inline(always)]
 fn enter_all(work: &mut [u8], len: usize, src: &[u8]) -> usize
     requires { len + length src.now + 1 ≤ length work.old }
     ensures { Begins work.new result (len + length src.now + 1) (enter_all_bytes (take len work.old) (pieces src.now)) }
@@ -186,7 +188,8 @@ fn hand_over(entered: &[u8], space: &mut [u8; MAX_PATH]) -> Result<usize, Refusa
     Ok(append(space, 0, resolved))
 }
 
-// Resolves a path given in a working directory into the lent space, from its start.
+// Resolves a path given in a working directory into the lent space, from its start. Not inlined: calls with no path have no work area on their stack.
+#[inline(never)]
 pub fn resolve(path: &[u8], cwd: &[u8], space: &mut [u8; MAX_PATH]) -> Result<usize, Refusal>
     ensures { Resolves path.now cwd.now space.old result space.new }
 {
